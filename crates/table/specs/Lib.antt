@@ -1,0 +1,5 @@
+pub mod Ends
+pub mod Keys
+pub mod Order
+pub mod Rows
+pub mod Updates

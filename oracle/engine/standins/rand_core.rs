@@ -1,0 +1,3 @@
+//! Stand-in for `rand_core`: our schemes use no randomness.
+
+pub trait CryptoRng {}
