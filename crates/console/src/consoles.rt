@@ -1,0 +1,17 @@
+//! The console: it takes lines one by one, and counts what they did.
+use console_tips::Board;
+
+mod lines;
+
+/// A console: its parts, and what it has seen so far.
+#[derive(Drop)]
+pub struct Console {
+    /// The part for signers and tips.
+    pub board: Board,
+    /// The lines, empty ones and comments too.
+    pub lines: u64,
+    /// The tips that counted.
+    pub counted: u64,
+    /// The lines that were refused.
+    pub refused: u64,
+}

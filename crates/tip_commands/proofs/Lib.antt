@@ -1,0 +1,3 @@
+pub mod Keys
+pub mod Ordered
+pub mod Tallies

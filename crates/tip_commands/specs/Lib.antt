@@ -1,0 +1,4 @@
+pub mod Order
+pub mod Sets
+pub mod Reading
+pub mod Printed

@@ -1,0 +1,13 @@
+pub mod Weights
+pub mod Tidy
+pub mod Lent
+pub mod Shifts
+pub mod Marks
+pub mod Moves
+pub mod Unique
+pub mod Splits
+pub mod Keyed
+pub mod Told
+pub mod Leaving
+pub mod Opening
+pub mod Reseating
