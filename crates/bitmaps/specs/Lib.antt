@@ -1,0 +1,4 @@
+pub mod Attested
+pub mod Maps
+pub mod Parts
+pub mod Verdicts

@@ -1,0 +1,4 @@
+pub mod Determined
+pub mod Judgement
+pub mod Reading
+pub mod Writing

@@ -1,0 +1,5 @@
+pub mod Certificates
+pub mod Judging
+pub mod Keeping
+pub mod Listing
+pub mod Theorems

@@ -1,0 +1,4 @@
+pub mod Judgement
+pub mod Reading
+pub mod Wrapping
+pub mod Writing

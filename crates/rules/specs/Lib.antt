@@ -1,0 +1,16 @@
+pub mod Lists
+pub mod State
+pub mod Acts
+pub mod Rules
+pub mod Plans
+pub mod Opening
+pub mod Message
+pub mod Calls
+pub mod Runs
+pub mod Promises
+pub mod Window
+pub mod Room
+pub mod Output
+pub mod Limits
+pub mod Durable
+pub mod Played
