@@ -27,7 +27,6 @@ use Rattle.std.specs.declared.result.Result.the-variants.{Ok, Err}
 use Rattle.std.specs.shelf.Text.{sameBytes}
 use Rattle.tips.specs.Faults.{quorum}
 
-
 -- by cases
 pub by-cond : {A : Type 0} (P : A → Type 0) (b : Bool) (x y : A) → P x → P y → P (cond b x y)
 by-cond P true x y p q = p
@@ -55,8 +54,10 @@ calm-then : (w : Work) (f : Mem → Work) → W w → ((m : Mem) → W (f m)) �
 calm-then w f c d = record { calm = calm-append (w .acts) (f (w .mem) .acts) (c .calm) (d (w .mem) .calm) }
 
 calm-move : (s : Settings) (t : ℕ) (m : Mem) → W (move s t m)
-calm-move s t m = record { calm =
-    ((λ n k. tt, λ n. refl, refl), ((λ n k. tt, λ n. refl, refl), ((λ n k. tt, λ n. refl, refl), ((λ n k. tt, λ n. refl, refl), ((λ n k. tt, λ n. refl, refl), tt))))) }
+calm-move s t m = record {
+  calm =
+      ((λ n k. tt, λ n. refl, refl), ((λ n k. tt, λ n. refl, refl), ((λ n k. tt, λ n. refl, refl), ((λ n k. tt, λ n. refl, refl), ((λ n k. tt, λ n. refl, refl), tt)))));
+}
 
 calm-told : (s : Settings) (c : Cert) (m : Mem) → W (announced s c m)
 calm-told s c m = record { calm = ((λ n k. tt, λ n. refl, refl), ((λ n k. tt, λ n. refl, refl), ((λ n k. tt, λ n. refl, refl), ((λ n k. tt, λ n. refl, refl), tt)))) }
@@ -92,8 +93,8 @@ calm-restore-from p s d e [] m = still m
 calm-restore-from p s d e (a ∷ rest) m =
     by-cond W (not (eqb (a .epoch) e) && is-certified m (a .height)) _ _ (still m)
     (by-cond W (sameBytes (a .digest) d) _ _
-      (calm-then (store p s a m) (restore-from p s d (a .epoch) rest) (calm-store p s a m) (calm-restore-from p s d (a .epoch) rest))
-      (calm-restore-from p s d (a .epoch) rest m))
+    (calm-then (store p s a m) (restore-from p s d (a .epoch) rest) (calm-store p s a m) (calm-restore-from p s d (a .epoch) rest))
+    (calm-restore-from p s d (a .epoch) rest m))
 
 calm-restore : (p : Answers) (s : Settings) (d : Bytes) (l : List Ack) (m : Mem) → W (restore p s d l m)
 calm-restore p s d [] m = still m

@@ -135,8 +135,8 @@ module _ (s : Settings) where
     w-restore-from d e (a ∷ rest) m =
         by-cond W (not (eqb (a .epoch) e) && is-certified m (a .height)) _ _ (still m)
         (by-cond W (sameBytes (a .digest) d) _ _
-          (both (store p s a m) (restore-from p s d (a .epoch) rest) (w-store a m) (w-restore-from d (a .epoch) rest))
-          (w-restore-from d (a .epoch) rest m))
+        (both (store p s a m) (restore-from p s d (a .epoch) rest) (w-store a m) (w-restore-from d (a .epoch) rest))
+        (w-restore-from d (a .epoch) rest m))
 
     w-restore : (d : Bytes) (l : List Ack) (m : Mem) → W (restore p s d l m)
     w-restore d [] m = still m
@@ -203,12 +203,12 @@ module _ (s : Settings) where
       o-from xs (r ∷ rs) f here =
           read-both (λ (pl : Plan). Told-safely s (pl .acts) v) (forms.read (r .bytes)) _ _ (λ w _. (tt, tt))
           (λ y q.
-            let z = all r (here r (List·Memᴰ·head refl)) in
-            let same : y ≡ z .says = (let b = z .back in cc) in
-            let there : There (z .says) = subst (λ n. In n (write (z .says)) v) (z .placed) (subst (λ b. In (r .section) b v) (z .written) (reading-in v r (here r (List·Memᴰ·head refl)))) in
-            o-from (xs ++ (y ∷ [])) rs
-            (λ x n. elim (List·Memᴰ·append-cases xs n) [ inl o ↦ f x o | inr o ↦ subst There (sym (List·Memᴰ·eq-of-singleton o ∙ same)) there ])
-            (λ k n. here k (List·Memᴰ·tail n)))
+          let z = all r (here r (List·Memᴰ·head refl)) in
+          let same : y ≡ z .says = (let b = z .back in cc) in
+          let there : There (z .says) = subst (λ n. In n (write (z .says)) v) (z .placed) (subst (λ b. In (r .section) b v) (z .written) (reading-in v r (here r (List·Memᴰ·head refl)))) in
+          o-from (xs ++ (y ∷ [])) rs
+          (λ x n. elim (List·Memᴰ·append-cases xs n) [ inl o ↦ f x o | inr o ↦ subst There (sym (List·Memᴰ·eq-of-singleton o ∙ same)) there ])
+          (λ k n. here k (List·Memᴰ·tail n)))
 
       o-plan : (x : Engine) → Told-safely s (plan-opening p s x v None e now room .acts) v
       o-plan x = go (opening-refusal p s x e now)

@@ -78,15 +78,18 @@ module _ (back : Back) (p : Answers) (s : Settings) (g : Bool) where
       backed = j .backed;
       agree = λ q a b y z. acks-one x f q a b (out a y) (out b z);
       shown = λ q a y o. elim (j .shown q a y o) [ inl u ↦ inl (u .0, keep _ _ (u .1)) | inr u ↦ inr (passed (a .height) u) ];
-      }
+    }
       where
         keep : (t : ℕ) (b : Bytes) → Dur t b v → Dur t b (appended (place p s g x) (write x) v)
         keep t b d = dur-appended (place p s g x) (write x) t b v d
+
         passed : (h : ℕ) → Passed p s g h v → Passed p s g h (appended (place p s g x) (write x) v)
         passed h (t, d, l) = (t, (d .0, keep _ _ (d .1)), l)
+
         stand : (c : Cert) → Stands p s g hist (appended (place p s g x) (write x) v) c → Stands p s g hist v c ⊎ (certified c ≡ x)
         stand c (inl u) = elim (old-or-new x (certified c) v m u) [ inl w ↦ inl (inl w) | inr w ↦ inr w ]
         stand c (inr u) = inl (inr u)
+
         out : (a : Ack) → Out p s g hist (appended (place p s g x) (write x) v) a → Out p s g hist v a ⊎ (ack a ≡ x)
         out a (inl u) = elim (old-or-new x (ack a) v m u) [ inl w ↦ inl (inl w) | inr w ↦ inr w ]
         out a (inr u) = inl (inr u)
@@ -107,16 +110,19 @@ module _ (back : Back) (p : Answers) (s : Settings) (g : Bool) where
       backed = λ c n. source-on p s g hist y (certified c) (elim (List·Memᴰ·append-cases hist n) [ inl u ↦ j .backed c u | inr u ↦ source-of (certified c) (there (fc c (List·Memᴰ·eq-of-singleton u))) ]);
       agree = λ q a b o r. j .agree q a b (out a o) (out b r);
       shown = λ q a o r. elim (was a o) [ inl u ↦ j .shown q a u r | inr u ↦ inl (subst (λ z. RecD p s g z v) (sym u) (m, d)) ];
-      }
+    }
       where
         there : {z : Activity} → z ≡ x → Rec p s g z v
         there e = subst (λ z. Rec p s g z v) (sym e) (m, dur-in _ _ v d)
+
         stand : (c : Cert) → Stands p s g (hist ++ (y ∷ [])) v c → Stands p s g hist v c
         stand c (inl u) = inl u
         stand c (inr u) = elim (List·Memᴰ·append-cases hist u) [ inl n ↦ inr n | inr n ↦ inl (there (fc c (List·Memᴰ·eq-of-singleton n))) ]
+
         was : (a : Ack) → Shown-by p s g (hist ++ (y ∷ [])) a → Shown-by p s g hist a ⊎ (ack a ≡ x)
         was a (inl u) = elim (List·Memᴰ·append-cases hist u) [ inl n ↦ inl (inl n) | inr n ↦ inr (fa a (List·Memᴰ·eq-of-singleton n)) ]
         was a (inr (t, u)) = elim (List·Memᴰ·append-cases hist u) [ inl n ↦ inl (inr (t, n)) | inr n ↦ inr (fs t a (List·Memᴰ·eq-of-singleton n)) ]
+
         out : (a : Ack) → Out p s g (hist ++ (y ∷ [])) v a → Out p s g hist v a
         out a (inl u) = inl u
         out a (inr u) = elim (was a u) [ inl n ↦ inr n | inr n ↦ inl (there n) ]

@@ -109,25 +109,57 @@ module _ (back : Back) (p : Answers) (law : Lawful p) (s : Settings) (g : Bool) 
   pub inv-hush : (hist : List Act) (v : Log) (k : Core) (a : Act) → Inv back p s g hist v k → loud a ≡ false → Inv back p s g (hist ++ (a ∷ [])) v k
   inv-hush hist v k a i q = record {
     jour = hush p s g hist v a (i .jour) q;
-    pos = i .pos; wide = i .wide; top = i .top; epoch = i .epoch; tips = i .tips; certs = i .certs; high = i .high; seats = i .seats; over = i .over; under = i .under; same = i .same; digests = i .digests;
+    pos = i .pos;
+    wide = i .wide;
+    top = i .top;
+    epoch = i .epoch;
+    tips = i .tips;
+    certs = i .certs;
+    high = i .high;
+    seats = i .seats;
+    over = i .over;
+    under = i .under;
+    same = i .same;
+    digests = i .digests;
     acks = λ x n. (let c = i .acks x n in record {
       sized = c .sized;
       source = elim (c .source) [ inl o ↦ inl (further a (hear x) o) | inr o ↦ inr (further a (sign x) o) ];
-      high = c .high; kept = c .kept });
-    above = i .above; epochs = i .epochs; verified = i .verified; ended = i .ended }
+      high = c .high;
+      kept = c .kept;
+    });
+    above = i .above;
+    epochs = i .epochs;
+    verified = i .verified;
+    ended = i .ended;
+  }
 
   -- a journal that made more durable
   pub inv-firmer : (hist : List Act) (v w : Log) (k : Core) → Inv back p s g hist v k → Firmer v w → Inv back p s g hist w k
   inv-firmer hist v w k i f = record {
     jour = firmer p s g hist v w (i .jour) f;
-    pos = i .pos; wide = i .wide; top = i .top; epoch = i .epoch;
-    tips = λ t r. i .tips t (was (tip t) r); certs = λ c r. i .certs c (was (certified c) r);
-    high = i .high; seats = i .seats; over = i .over; under = i .under; same = i .same; digests = i .digests;
+    pos = i .pos;
+    wide = i .wide;
+    top = i .top;
+    epoch = i .epoch;
+    tips = λ t r. i .tips t (was (tip t) r);
+    certs = λ c r. i .certs c (was (certified c) r);
+    high = i .high;
+    seats = i .seats;
+    over = i .over;
+    under = i .under;
+    same = i .same;
+    digests = i .digests;
     acks = λ x n. (let c = i .acks x n in record {
-      sized = c .sized; source = c .source; high = c .high;
-      kept = λ q o. elim (c .kept q o) [ inl r ↦ inl (r .0, dur-firmer _ _ v w f (r .1)) | inr r ↦ inr (r .0, (r .1 .0, dur-firmer _ _ v w f (r .1 .1)), r .2) ] });
+      sized = c .sized;
+      source = c .source;
+      high = c .high;
+      kept = λ q o. elim (c .kept q o) [ inl r ↦ inl (r .0, dur-firmer _ _ v w f (r .1)) | inr r ↦ inr (r .0, (r .1 .0, dur-firmer _ _ v w f (r .1 .1)), r .2) ];
+    });
     above = i .above;
-    epochs = λ q x r. i .epochs q x (was (ack x) r); verified = λ q x r. i .verified q x (was (ack x) r); ended = λ q x r. i .ended q x (was (ack x) r) }
+    epochs = λ q x r. i .epochs q x (was (ack x) r);
+    verified = λ q x r. i .verified q x (was (ack x) r);
+    ended = λ q x r. i .ended q x (was (ack x) r);
+  }
     where
       was : (x : Activity) → Rec p s g x w → Rec p s g x v
       was x r = (r .0, firmer-in _ _ v w f (r .1))
@@ -140,27 +172,49 @@ module _ (back : Back) (p : Answers) (law : Lawful p) (s : Settings) (g : Bool) 
     where
       new : Mem
       new = record {
-        epoch = m .epoch; tip = m .tip; seats = m .seats; pending = m .pending ++ (record { height = next m; verified = None } ∷ []);
-        acks = m .acks; certs = m .certs; deadlines = m .deadlines; wanted = m .wanted ++ (next m ∷ []) }
+        epoch = m .epoch;
+        tip = m .tip;
+        seats = m .seats;
+        pending = m .pending ++ (record { height = next m; verified = None } ∷ []);
+        acks = m .acks;
+        certs = m .certs;
+        deadlines = m .deadlines;
+        wanted = m .wanted ++ (next m ∷ []);
+      }
+
       base : m .tip ≤ next m
       base =
           let a = high-base (λ (c : Cert). c .height + 1) (m .tip) (m .certs) in
           let b = high-base (λ (y : Pending). y .height + 1) (highest (λ c. c .height + 1) (m .tip) (m .certs)) (m .pending) in
           omega arith
+
       old : (y : Pending) → List·Memᴰ y (m .pending) → y .height < next m
       old y o = let l = high-of (λ (z : Pending). z .height + 1) (highest (λ c. c .height + 1) (m .tip) (m .certs)) y (m .pending) o in omega arith
+
       more : next m - m .tip < s .window → Inv back p s g hist v (core new)
       more l = record {
-        jour = i .jour; pos = i .pos; wide = i .wide; top = i .top; epoch = i .epoch; tips = i .tips; certs = i .certs; high = i .high; seats = i .seats;
+        jour = i .jour;
+        pos = i .pos;
+        wide = i .wide;
+        top = i .top;
+        epoch = i .epoch;
+        tips = i .tips;
+        certs = i .certs;
+        high = i .high;
+        seats = i .seats;
         over = λ y o. elim (List·Memᴰ·append-cases (m .pending) o) [ inl z ↦ i .over y z | inr z ↦ (let e = ap (λ k. k .height) (List·Memᴰ·eq-of-singleton z) in let b = base in omega arith) ];
         under = λ y o. elim (List·Memᴰ·append-cases (m .pending) o) [ inl z ↦ i .under y z | inr z ↦ (let e = ap (λ k. k .height) (List·Memᴰ·eq-of-singleton z) in let b = base in omega arith) ];
         same = λ y z o q e. alike y z (List·Memᴰ·append-cases (m .pending) o) (List·Memᴰ·append-cases (m .pending) q) e;
         digests = λ y o. elim (List·Memᴰ·append-cases (m .pending) o) [ inl z ↦ i .digests y z | inr z ↦ subst (λ k. Sized-digest (k .verified)) (sym (List·Memᴰ·eq-of-singleton z)) tt ];
-        acks = i .acks; above = i .above; epochs = i .epochs;
+        acks = i .acks;
+        above = i .above;
+        epochs = i .epochs;
         verified = λ q a r e y o f. elim (List·Memᴰ·append-cases (m .pending) o) [
-            inl z ↦ i .verified q a r e y z f
-          | inr z ↦ (let h = ap (λ k. k .height) (List·Memᴰ·eq-of-singleton z) in let w = i .ended q a r in absurd (omega arith)) ];
-        ended = λ q a r. (let w = i .ended q a r in let b = high-app (λ (y : Pending). y .height + 1) (highest (λ c. c .height + 1) (m .tip) (m .certs)) (m .pending) (record { height = next m; verified = None }) in omega arith) }
+          | inl z ↦ i .verified q a r e y z f
+          | inr z ↦ (let h = ap (λ k. k .height) (List·Memᴰ·eq-of-singleton z) in let w = i .ended q a r in absurd (omega arith))
+        ];
+        ended = λ q a r. (let w = i .ended q a r in let b = high-app (λ (y : Pending). y .height + 1) (highest (λ c. c .height + 1) (m .tip) (m .certs)) (m .pending) (record { height = next m; verified = None }) in omega arith);
+      }
         where
           alike : (y z : Pending) → List·Memᴰ y (m .pending) ⊎ List·Memᴰ y (record { height = next m; verified = None } ∷ []) → List·Memᴰ z (m .pending) ⊎ List·Memᴰ z (record { height = next m; verified = None } ∷ []) → y .height ≡ z .height → y .verified ≡ z .verified
           alike y z (inl a) (inl b) e = i .same y z a b e
@@ -174,11 +228,27 @@ module _ (back : Back) (p : Answers) (law : Lawful p) (s : Settings) (g : Bool) 
   -- the tip of a message
   tip-counted : (hist : List Act) (v : Log) (m : Mem) (k : Bytes) (t : ℕ) → Inv back p s g hist v (core m) → t < 2 ^ 62 → Inv back p s g hist v (core (seat-told k t m))
   tip-counted hist v m k t i l = record {
-    jour = i .jour; pos = i .pos; wide = i .wide; top = i .top; epoch = i .epoch; tips = i .tips; certs = i .certs; high = i .high;
+    jour = i .jour;
+    pos = i .pos;
+    wide = i .wide;
+    top = i .top;
+    epoch = i .epoch;
+    tips = i .tips;
+    certs = i .certs;
+    high = i .high;
     seats = λ x o.
-      (let z = map-in (λ (y : Seat). cond (sameBytes k (y .key)) (record { key = y .key; tip = t }) y) x (m .seats) o in
-      subst (λ y. y .tip < 2 ^ 62) (sym (z .2)) (cond-both (sameBytes k (z .0 .key)) (record { key = z .0 .key; tip = t }) (z .0) (λ y. y .tip < 2 ^ 62) (λ _. l) (λ _. i .seats (z .0) (z .1))));
-    over = i .over; under = i .under; same = i .same; digests = i .digests; acks = i .acks; above = i .above; epochs = i .epochs; verified = i .verified; ended = i .ended }
+        (let z = map-in (λ (y : Seat). cond (sameBytes k (y .key)) (record { key = y .key; tip = t }) y) x (m .seats) o in
+        subst (λ y. y .tip < 2 ^ 62) (sym (z .2)) (cond-both (sameBytes k (z .0 .key)) (record { key = z .0 .key; tip = t }) (z .0) (λ y. y .tip < 2 ^ 62) (λ _. l) (λ _. i .seats (z .0) (z .1))));
+    over = i .over;
+    under = i .under;
+    same = i .same;
+    digests = i .digests;
+    acks = i .acks;
+    above = i .above;
+    epochs = i .epochs;
+    verified = i .verified;
+    ended = i .ended;
+  }
 
   safe-low : (xs : List Seat) → ((x : Seat) → List·Memᴰ x xs → x .tip < 2 ^ 62) → safe-tip xs ≤ 2 ^ 62
   safe-low xs f = high-under (λ (x : Seat). x .tip) 0 (2 ^ 62) _ (omega arith) (λ x m. (let l = f x (those-in _ x xs m .0) in omega arith))
@@ -187,15 +257,15 @@ module _ (back : Back) (p : Answers) (law : Lawful p) (s : Settings) (g : Bool) 
   tip-first hist v m k t i l =
       cond-both (counts m k t) (to-safe-tip s (seat-told k t m)) (idle m) (Does back p law s g hist v (core m))
       (λ _.
-        let n = seat-told k t m in
-        let j = tip-counted hist v m k t i l in
-        cond-both (ltb (n .tip) (safe-tip (n .seats))) (move s (safe-tip (n .seats)) n) (idle n) (Does back p law s g hist v (core m))
-        (λ q. wp-more (JInv p s g) (move s (safe-tip (n .seats)) n .acts) hist v
-          (λ h u. Inv back p s g h u (core (move s (safe-tip (n .seats)) n .mem)) × Step back p s g hist v (core n) h u (core (move s (safe-tip (n .seats)) n .mem)))
-          (λ h u. Inv back p s g h u (core (move s (safe-tip (n .seats)) n .mem)) × Step back p s g hist v (core m) h u (core (move s (safe-tip (n .seats)) n .mem)))
-          (λ h u r. (r .0, record { grown = r .1 .grown; fewer = r .1 .fewer; kept = r .1 .kept; pending = r .1 .pending; epoch = r .1 .epoch; onward = r .1 .onward }))
-          (moving back p s g hist v n (safe-tip (n .seats)) j (ltb-true _ _ q) (safe-low (n .seats) (j .seats))))
-        (λ _. (j, record { grown = λ a o. o; fewer = λ a o. o; kept = λ a o. o; pending = λ a o. o; epoch = refl; onward = omega arith })))
+      let n = seat-told k t m in
+      let j = tip-counted hist v m k t i l in
+      cond-both (ltb (n .tip) (safe-tip (n .seats))) (move s (safe-tip (n .seats)) n) (idle n) (Does back p law s g hist v (core m))
+      (λ q. wp-more (JInv p s g) (move s (safe-tip (n .seats)) n .acts) hist v
+      (λ h u. Inv back p s g h u (core (move s (safe-tip (n .seats)) n .mem)) × Step back p s g hist v (core n) h u (core (move s (safe-tip (n .seats)) n .mem)))
+      (λ h u. Inv back p s g h u (core (move s (safe-tip (n .seats)) n .mem)) × Step back p s g hist v (core m) h u (core (move s (safe-tip (n .seats)) n .mem)))
+      (λ h u r. (r .0, record { grown = r .1 .grown; fewer = r .1 .fewer; kept = r .1 .kept; pending = r .1 .pending; epoch = r .1 .epoch; onward = r .1 .onward }))
+      (moving back p s g hist v n (safe-tip (n .seats)) j (ltb-true _ _ q) (safe-low (n .seats) (j .seats))))
+      (λ _. (j, record { grown = λ a o. o; fewer = λ a o. o; kept = λ a o. o; pending = λ a o. o; epoch = refl; onward = omega arith })))
       (λ _. does-idle back p law s g hist v m i)
 
   -- an ack that passed the checks came under the key of its signer
@@ -210,13 +280,19 @@ module _ (back : Back) (p : Answers) (law : Lawful p) (s : Settings) (g : Bool) 
   pub ack-then : (hist : List Act) (v : Log) (m : Mem) (k : Bytes) (a : Ack) → Inv back p s g hist v (core m) → Sized-ack a → a .height < 2 ^ 62 → (g ≡ true → Own-key p k → ⊥) → Ends back p law s g hist v (ack-told p s k a m)
   ack-then hist v m k a i size l foreign =
       cond-both (eqb (checked p s k a m) 0) _ _ (Ends back p law s g hist v)
-      (λ q. (λ room r w z. absurd z, λ _.
-        does-ends back p law s g (hist ++ (hear a ∷ [])) v (core m) (store p s a m)
-        (storing back p law s g (hist ++ (hear a ∷ [])) v m a (inv-hush hist v (core m) (hear a) i refl) (record {
-          sized = size; source = inl (latest hist (hear a)); high = λ z. absurd (omega arith);
-          kept = λ z o. absurd (foreign z (passed-key k a m (eqb-true _ _ q) o)) }))))
+      (λ q. (
+        λ room r w z. absurd z,
+        λ _.
+            does-ends back p law s g (hist ++ (hear a ∷ [])) v (core m) (store p s a m)
+            (storing back p law s g (hist ++ (hear a ∷ [])) v m a (inv-hush hist v (core m) (hear a) i refl) (record {
+              sized = size;
+              source = inl (latest hist (hear a));
+              high = λ z. absurd (omega arith);
+              kept = λ z o. absurd (foreign z (passed-key k a m (eqb-true _ _ q) o));
+            })),
+      ))
       (λ _. cond-both (eqb (checked p s k a m) 16 || eqb (checked p s k a m) 21) (block k ∷ []) [] (λ l. WP (JInv p s g) l hist v (λ h u. Inv back p s g h u (core m)))
-        (λ _. (λ room r w z. absurd z, λ _. inv-hush hist v (core m) (block k) i refl)) (λ _. i))
+      (λ _. (λ room r w z. absurd z, λ _. inv-hush hist v (core m) (block k) i refl)) (λ _. i))
 
   -- a plan of a running engine
   abbrev pub Ok-after : List Act → Log → Mem → After → Type 0
@@ -243,36 +319,48 @@ module _ (back : Back) (p : Answers) (law : Lawful p) (s : Settings) (g : Bool) 
   good-message sizes hist v m k b room bytes i foreign =
       good-or hist v m (refused-short room) _ i
       (read-both (Good hist v m) (forms.message b) (undecoded k) (plan-told p s m k)
-        (λ e _. (λ room r w z. absurd z, λ _. inv-hush hist v (core m) (block k) i refl))
-        (λ t q. cond-both (too-high t) (refuse 13) _ (Good hist v m) (λ _. i)
-          (λ r.
-            let o = or-parts _ _ r in
-            let lt = leb-false _ _ (o .0) in
-            let lh = leb-false _ _ (o .1) in
-            let z = sizes b t bytes q in
-            good-carry hist v m (told p s k t m) (ack-answer p s k (t .ack) (tip-told s k (t .tip) m .mem))
-            (ends-then back p law s g hist v (core m) (tip-told s k (t .tip) m) (ack-told p s k (t .ack)) (tip-first hist v m k (t .tip) i lt)
-              (λ h u j _. ack-then h u (tip-told s k (t .tip) m .mem) k (t .ack) j (record { high = omega arith; epoch = z .epoch; signer = z .signer; digest = z .digest; signature = z .signature }) lh foreign)))))
+      (λ e _. (λ room r w z. absurd z, λ _. inv-hush hist v (core m) (block k) i refl))
+      (λ t q. cond-both (too-high t) (refuse 13) _ (Good hist v m) (λ _. i)
+      (λ r.
+      let o = or-parts _ _ r in
+      let lt = leb-false _ _ (o .0) in
+      let lh = leb-false _ _ (o .1) in
+      let z = sizes b t bytes q in
+      good-carry hist v m (told p s k t m) (ack-answer p s k (t .ack) (tip-told s k (t .tip) m .mem))
+      (ends-then back p law s g hist v (core m) (tip-told s k (t .tip) m) (ack-told p s k (t .ack)) (tip-first hist v m k (t .tip) i lt)
+      (λ h u j _. ack-then h u (tip-told s k (t .tip) m .mem) k (t .ack) j (record { high = omega arith; epoch = z .epoch; signer = z .signer; digest = z .digest; signature = z .signature }) lh foreign)))))
 
   -- Epoch change
   in-epoch-inv : (hist : List Act) (v : Log) (m : Mem) (e now : ℕ) → Inv back p s g hist v (core m) → e < 2 ^ 64 → m .epoch ≤ e → Inv back p s g hist v (core (in-epoch p s m e now))
   in-epoch-inv hist v m e now i l up = record {
-    jour = i .jour; pos = i .pos; wide = i .wide; top = i .top; epoch = l; tips = i .tips; certs = i .certs; high = i .high;
+    jour = i .jour;
+    pos = i .pos;
+    wide = i .wide;
+    top = i .top;
+    epoch = l;
+    tips = i .tips;
+    certs = i .certs;
+    high = i .high;
     seats = λ x o.
-      (let z = map-in (λ (k : Bytes). record { key = k; tip = seat-tip (m .seats) k }) x (keys-of p e) o in
-      subst (λ y. y .tip < 2 ^ 62) (sym (z .2)) (opt-both (λ n. n < 2 ^ 62) (first (λ y. sameBytes (z .0) (y .key)) (m .seats)) 0 (λ y. y .tip) (λ _. omega arith) (λ y q. i .seats y (first-in _ (m .seats) y q .0))));
-    over = i .over; under = i .under; same = i .same; digests = i .digests;
-    acks = λ a o. i .acks a (those-in _ a (m .acks) o .0); above = λ a o. i .above a (those-in _ a (m .acks) o .0);
+        (let z = map-in (λ (k : Bytes). record { key = k; tip = seat-tip (m .seats) k }) x (keys-of p e) o in
+        subst (λ y. y .tip < 2 ^ 62) (sym (z .2)) (opt-both (λ n. n < 2 ^ 62) (first (λ y. sameBytes (z .0) (y .key)) (m .seats)) 0 (λ y. y .tip) (λ _. omega arith) (λ y q. i .seats y (first-in _ (m .seats) y q .0))));
+    over = i .over;
+    under = i .under;
+    same = i .same;
+    digests = i .digests;
+    acks = λ a o. i .acks a (those-in _ a (m .acks) o .0);
+    above = λ a o. i .above a (those-in _ a (m .acks) o .0);
     epochs = λ q a r. (let w = i .epochs q a r in omega arith);
     verified = λ q a r f x n h. (let w = i .epochs q a r in i .verified q a r (omega arith) x n h);
-    ended = i .ended }
+    ended = i .ended;
+  }
 
   pub good-epoch : (hist : List Act) (v : Log) (m : Mem) (e now : ℕ) → Inv back p s g hist v (core m) → e < 2 ^ 64 → Good hist v m (plan-epoch p s m e now)
   good-epoch hist v m e now i l =
       good-or-0 hist v m (epoch-refusal p m e now) _ i
       (λ q.
-        let r = all-clear (epoch-tests p m e now) (omega arith) q in
-        filled hist v (in-epoch p s m e now) (in-epoch-inv hist v m e now i l (ltb-false _ _ (r .1 .0))))
+      let r = all-clear (epoch-tests p m e now) (omega arith) q in
+      filled hist v (in-epoch p s m e now) (in-epoch-inv hist v m e now i l (ltb-false _ _ (r .1 .0))))
 
   -- Slips
   one-quiet : (hist : List Act) (v : Log) (m : Mem) (a : Act) → ((room : Rattle.rules.specs.Acts.Space) (r : Rattle.rules.specs.Acts.Ended) (w : Log) → Rattle.rules.specs.Acts.Stops room a v r w → ⊥) → Rattle.rules.specs.Acts.in-log a v ≡ v → loud a ≡ false → Inv back p s g hist v (core m) → WP (JInv p s g) (a ∷ []) hist v (λ h u. Inv back p s g h u (core m))
@@ -295,7 +383,7 @@ module _ (back : Back) (p : Answers) (law : Lawful p) (s : Settings) (g : Bool) 
   good-digest hist v m h d now room i l =
       cond-both (eqb (refused-late now room) 0) _ _ (Good hist v m)
       (λ _. good-carry hist v m (then (taken-back h m) (digest-for p s now h d)) ok
-        (λ room r w z. absurd z, λ _. handing-in back p law s g (hist ++ (take-back h ∷ [])) v m now h d (inv-hush hist v (core m) (take-back h) i refl) l))
+      (λ room r w z. absurd z, λ _. handing-in back p law s g (hist ++ (take-back h ∷ [])) v m now h d (inv-hush hist v (core m) (take-back h) i refl) l))
       (λ _. good-put hist v m h (refused (refused-late now room)) i)
 
   pub good-cancel : (hist : List Act) (v : Log) (m : Mem) (h : ℕ) → Inv back p s g hist v (core m) → Good hist v m (plan-cancel s m h)

@@ -90,7 +90,7 @@ high-placed n c (y ∷ l) =
     let Q : List Cert → Type 0 = λ z. highest (λ x. x .height + 1) n (y ∷ l) ≤ highest (λ x. x .height + 1) n z in
     cond-both (ltb (c .height) (y .height)) (c ∷ y ∷ l) _ Q (λ _. omega arith)
     (λ a. cond-both (ltb (y .height) (c .height)) (y ∷ placed (λ a b. ltb (a .height) (b .height)) c l) (c ∷ l) Q (λ _. omega arith)
-      (λ b. let u = ltb-false (c .height) (y .height) a in let v = ltb-false (y .height) (c .height) b in omega arith))
+    (λ b. let u = ltb-false (c .height) (y .height) a in let v = ltb-false (y .height) (c .height) b in omega arith))
 
 -- what is wanted stays in order
 abbrev pub Grows : Mem → Mem → Type 0
@@ -114,7 +114,8 @@ next-dropped c t m e f =
 
 grow-move : (s : Settings) (t : ℕ) (m : Mem) → m .tip ≤ t → G m (move s t m)
 grow-move s t m e = record {
-  grow = λ b a. asc-top b (those (leb (low s t)) (m .wanted)) (next m) (next (dropped (low s t) t m)) (next-dropped (low s t) t m e (omega arith)) (asc-those (leb (low s t)) b (m .wanted) (next m) a) }
+  grow = λ b a. asc-top b (those (leb (low s t)) (m .wanted)) (next m) (next (dropped (low s t) t m)) (next-dropped (low s t) t m e (omega arith)) (asc-those (leb (low s t)) b (m .wanted) (next m) a);
+}
 
 pub free-above : (n t : ℕ) (m : Mem) → t ≤ first-free n t m
 free-above zero t m = omega arith
@@ -128,9 +129,9 @@ grow-certify : (s : Settings) (c : Cert) (m : Mem) → G m (certify s c m)
 grow-certify s c m =
     by-cond (G m) (is-certified m (c .height)) _ _ (still m)
     (grow-then m (announced s c (with-cert c m)) _ (record { grow = grow-cert c m })
-      (λ n. let t = first-free (length (n .certs)) (c .height + 1) n in
-        cond-both (eqb (c .height) (n .tip)) (move s t n) (idle n) (G n)
-        (λ q. let u = eqb-true (c .height) (n .tip) q in let v = free-above (length (n .certs)) (c .height + 1) n in grow-move s t n (omega arith)) (λ _. still n)))
+    (λ n. let t = first-free (length (n .certs)) (c .height + 1) n in
+    cond-both (eqb (c .height) (n .tip)) (move s t n) (idle n) (G n)
+    (λ q. let u = eqb-true (c .height) (n .tip) q in let v = free-above (length (n .certs)) (c .height + 1) n in grow-move s t n (omega arith)) (λ _. still n)))
 
 grow-assembled : (s : Settings) (a : Ack) (o : Option Bytes) (m : Mem) → G m (assembled s a o m)
 grow-assembled s a None m = record { grow = λ b x. x }
@@ -153,8 +154,8 @@ grow-restore-from p s d e [] m = still m
 grow-restore-from p s d e (a ∷ rest) m =
     by-cond (G m) (not (eqb (a .epoch) e) && is-certified m (a .height)) _ _ (still m)
     (by-cond (G m) (sameBytes (a .digest) d) _ _
-      (grow-then m (store p s a m) (restore-from p s d (a .epoch) rest) (grow-store p s a m) (grow-restore-from p s d (a .epoch) rest))
-      (grow-restore-from p s d (a .epoch) rest m))
+    (grow-then m (store p s a m) (restore-from p s d (a .epoch) rest) (grow-store p s a m) (grow-restore-from p s d (a .epoch) rest))
+    (grow-restore-from p s d (a .epoch) rest m))
 
 grow-restore : (p : Answers) (s : Settings) (d : Bytes) (l : List Ack) (m : Mem) → G m (restore p s d l m)
 grow-restore p s d [] m = still m
@@ -172,7 +173,7 @@ grow-cleared : (h : ℕ) (d : Bytes) (m : Mem) → Grows m (cleared h d m)
 grow-cleared h d m b a =
     asc-top b (m .wanted) (next m) (next (cleared h d m))
     (high-map (λ x. x .height + 1) (λ x. x .height + 1) (λ x. cond (eqb (x .height) h) (record { height = h; verified = Some d }) x) _ (m .pending)
-      (λ x. cond-both (eqb (x .height) h) (record { height = h; verified = Some d }) x (λ z. x .height + 1 ≤ z .height + 1) (λ q. let u = eqb-true (x .height) h q in omega arith) (λ _. omega arith)))
+    (λ x. cond-both (eqb (x .height) h) (record { height = h; verified = Some d }) x (λ z. x .height + 1 ≤ z .height + 1) (λ q. let u = eqb-true (x .height) h q in omega arith) (λ _. omega arith)))
     a
 
 pub grow-digest : (p : Answers) (s : Settings) (now h : ℕ) (d : Bytes) (m : Mem) → Grows m (digest-for p s now h d m .mem)
@@ -182,7 +183,7 @@ grow-digest p s now h d m = done .grow
     done =
         by-opt (G m) (pending-at m h) _ _ (still m) (λ x. by-opt (G m) (x .verified) _ _
         (grow-then m (restore p s d (those (λ a. eqb (a .height) h) (m .acks)) (cleared h d m)) (sign-and-send p s now h d)
-          (record { grow = λ b a. grow-restore p s d (those (λ a. eqb (a .height) h) (m .acks)) (cleared h d m) .grow b (grow-cleared h d m b a) }) (grow-send p s now h d))
+        (record { grow = λ b a. grow-restore p s d (those (λ a. eqb (a .height) h) (m .acks)) (cleared h d m) .grow b (grow-cleared h d m b a) }) (grow-send p s now h d))
         (λ _. still m))
 
 grow-rebroadcast : (p : Answers) (s : Settings) (now h : ℕ) (m : Mem) → G m (rebroadcast p s now h m)
@@ -190,7 +191,7 @@ grow-rebroadcast p s now h m =
     by-opt (G m) (pending-at m h) _ _ (still m) (λ x. by-opt (G m) (x .verified) _ _ (still m) (λ d. by-opt (G m) (own-ack p m h d) _ _ (still m) (λ a.
     by-opt (G m) (ack-of m h (a .epoch) (a .signer)) _ _
     (grow-then m _ (λ y. sending a (due-at (now + s .timeout) h y)) (grow-then m (signing s a m) (store p s a) (record { grow = λ b y. y }) (grow-store p s a))
-      (λ x. record { grow = grow-due (now + s .timeout) h x }))
+    (λ x. record { grow = grow-due (now + s .timeout) h x }))
     (λ b. record { grow = grow-due (now + s .timeout) h m }))))
 
 grow-fill-by : (n : ℕ) (s : Settings) (m : Mem) → Grows m (fill-by n s m)
@@ -198,7 +199,7 @@ grow-fill-by zero s m = λ b a. a
 grow-fill-by (suc n) s m =
     by-cond (Grows m) (ltb (next m - m .tip) (s .window)) _ _
     (λ b a. grow-fill-by n s _ b
-      (asc-top b (m .wanted ++ (next m ∷ [])) (next m + 1) _ (high-push (λ x. x .height + 1) (highest (λ x. x .height + 1) (m .tip) (m .certs)) (m .pending) (record { height = next m; verified = None })) (asc-push b (m .wanted) (next m) a)))
+    (asc-top b (m .wanted ++ (next m ∷ [])) (next m + 1) _ (high-push (λ x. x .height + 1) (highest (λ x. x .height + 1) (m .tip) (m .certs)) (m .pending) (record { height = next m; verified = None })) (asc-push b (m .wanted) (next m) a)))
     (λ b a. a)
 
 pub grow-fill : (s : Settings) (m n : Mem) → Grows m n → Grows m (fill s n)
@@ -243,7 +244,7 @@ on-told : (p : Answers) (s : Settings) (m : Mem) (k : Bytes) (t : TipAck) → O 
 on-told p s m k t =
     by-cond (O m) (too-high t) _ _ (not-done m 13)
     (on-carry s m (told p s k t m) (ack-answer p s k (t .ack) (tip-told s k (t .tip) m .mem))
-      (grow-then m (tip-told s k (t .tip) m) (ack-told p s k (t .ack)) (grow-tip s k (t .tip) m) (grow-ack p s k (t .ack))))
+    (grow-then m (tip-told s k (t .tip) m) (ack-told p s k (t .ack)) (grow-tip s k (t .tip) m) (grow-ack p s k (t .ack))))
 
 pub on-message : (p : Answers) (s : Settings) (m : Mem) (k b : Bytes) (room : ℕ) → O m (plan-message p s m k b room)
 on-message p s m k b room = on-or m (refused-short room) _ (by-read (O m) (forms.message b) _ _ (λ w. record { on = tt }) (on-told p s m k))

@@ -106,7 +106,7 @@ module _ (back : Back) (p : Answers) (law : Lawful p) (s : Settings) (g : Bool) 
   does-then hist v k w f d e =
       wp-then (JInv p s g) (w .acts) (f (w .mem) .acts) hist v _
       (wp-more (JInv p s g) (w .acts) hist v _ _ (λ h u q.
-        wp-more (JInv p s g) (f (w .mem) .acts) h u _ _ (λ h′ u′ r. (r .0, stride back p s g hist v k h u (core (w .mem)) h′ u′ (core (f (w .mem) .mem)) (q .1) (r .1))) (e h u (q .0) (q .1))) d)
+      wp-more (JInv p s g) (f (w .mem) .acts) h u _ _ (λ h′ u′ r. (r .0, stride back p s g hist v k h u (core (w .mem)) h′ u′ (core (f (w .mem) .mem)) (q .1) (r .1))) (e h u (q .0) (q .1))) d)
 
   pub ends-then : (hist : List Act) (v : Log) (k : Core) (w : Work) (f : Mem → Work) → Does hist v k w →
       ((h : List Act) (u : Log) → Inv back p s g h u (core (w .mem)) → Step back p s g hist v k h u (core (w .mem)) → Ends h u (f (w .mem))) → Ends hist v (then w f)
@@ -120,18 +120,33 @@ module _ (back : Back) (p : Answers) (law : Lawful p) (s : Settings) (g : Bool) 
   certifying hist v m c i size bk l =
       cond-both (is-certified m (c .height)) (idle m) _ (Does hist v (core m)) (λ _. does-idle hist v m i)
       (λ new. does-then hist v (core m) (announced s c (with-cert c m)) (go-on s (c .height)) (announcing back p s g hist v m c i size bk l new)
-        (λ h u j _. cond-both (eqb (c .height) (with-cert c m .tip)) (move s (first-free (length (with-cert c m .certs)) (c .height + 1) (with-cert c m)) (with-cert c m)) (idle (with-cert c m)) (Does h u (core (with-cert c m)))
-          (λ q. (let e = eqb-true (c .height) (m .tip) q in let a = free-above (length (with-cert c m .certs)) (c .height + 1) (with-cert c m) in let b = size .high in
-            moving back p s g h u (with-cert c m) _ j (omega arith) (free-below (length (with-cert c m .certs)) (c .height + 1) (with-cert c m) (omega arith) (j .high))))
-          (λ _. does-idle h u (with-cert c m) j)))
+      (λ h u j _. cond-both (eqb (c .height) (with-cert c m .tip)) (move s (first-free (length (with-cert c m .certs)) (c .height + 1) (with-cert c m)) (with-cert c m)) (idle (with-cert c m)) (Does h u (core (with-cert c m)))
+      (λ q. (let e = eqb-true (c .height) (m .tip) q in let a = free-above (length (with-cert c m .certs)) (c .height + 1) (with-cert c m) in let b = size .high in
+      moving back p s g h u (with-cert c m) _ j (omega arith) (free-below (length (with-cert c m .certs)) (c .height + 1) (with-cert c m) (omega arith) (j .high))))
+      (λ _. does-idle h u (with-cert c m) j)))
 
   -- a stored ack more
   with-ack : (hist : List Act) (v : Log) (m : Mem) (a : Ack) → Inv back p s g hist v (core m) → Sourced back p s g hist v a → low s (m .tip) ≤ a .height → Inv back p s g hist v (core (with-acks (placed ack-below a (m .acks)) m))
   with-ack hist v m a i c l = record {
-    jour = i .jour; pos = i .pos; wide = i .wide; top = i .top; epoch = i .epoch; tips = i .tips; certs = i .certs; high = i .high; seats = i .seats; over = i .over; under = i .under; same = i .same; digests = i .digests;
+    jour = i .jour;
+    pos = i .pos;
+    wide = i .wide;
+    top = i .top;
+    epoch = i .epoch;
+    tips = i .tips;
+    certs = i .certs;
+    high = i .high;
+    seats = i .seats;
+    over = i .over;
+    under = i .under;
+    same = i .same;
+    digests = i .digests;
     acks = λ x n. elim (placed-in ack-below a x (m .acks) n) [ inl e ↦ subst (Sourced back p s g hist v) (sym e) c | inr o ↦ i .acks x o ];
     above = λ x n. elim (placed-in ack-below a x (m .acks) n) [ inl e ↦ subst (λ y. low s (m .tip) ≤ y .height) (sym e) l | inr o ↦ i .above x o ];
-    epochs = i .epochs; verified = i .verified; ended = i .ended }
+    epochs = i .epochs;
+    verified = i .verified;
+    ended = i .ended;
+  }
 
   -- acks that agree, and were assembled, back their certificate
   module _ (hist : List Act) (v : Log) (m : Mem) (a : Ack) (i : Inv back p s g hist v (core m)) (c : Sourced back p s g hist v a) (b : Bytes) (made : p .signing .assemble (a .epoch) (map attested (agreeing a (m .acks))) ≡ Some b) where
@@ -149,26 +164,37 @@ module _ (back : Back) (p : Answers) (law : Lawful p) (s : Settings) (g : Bool) 
 
     backs : Backed-by p s g hist (record { height = a .height; digest = a .digest; bytes = b })
     backs =
-        let o = law .no-other (a .epoch) (map attested (agreeing a (m .acks))) b made in
-        (a .epoch, (o .0, (signersOf (map attested (agreeing a (m .acks))), o .1, distinct _ (o .2 .ascending), o .2 .quorate,
-          each _ _ (λ n q. (let x = one-behind n q in
-            (one-of (λ k. k < length (o .0)) _ n (o .2 .below) q, (x .0, i .acks (x .0) (x .1 .among) .source, x .1 .epoch, x .2, x .1 .height, x .1 .digest)))))))
+        let o = law .no-other (a .epoch) (map attested (agreeing a (m .acks))) b made in (
+          a .epoch,
+          (
+            o .0,
+            (
+              signersOf (map attested (agreeing a (m .acks))),
+              o .1,
+              distinct _ (o .2 .ascending),
+              o .2 .quorate,
+              each _ _ (λ n q. (let x = one-behind n q in
+                  (one-of (λ k. k < length (o .0)) _ n (o .2 .below) q, (x .0, i .acks (x .0) (x .1 .among) .source, x .1 .epoch, x .2, x .1 .height, x .1 .digest)))),
+            ),
+          ),
+        )
 
     low-enough : a .height < 2 ^ 62
     low-enough = elim (cases-lt (a .height) (2 ^ 62)) [
-        inl l ↦ l
+      | inl l ↦ l
       | inr l ↦
-        (let o = law .no-other (a .epoch) (map attested (agreeing a (m .acks))) b made in
-        let two = law .sound .set (a .epoch) (o .0) (o .1) .least in
-        let q = o .2 .quorate in
-        let mine = c .high l in
-        let n = lonely (a .signer) (signersOf (map attested (agreeing a (m .acks)))) (o .2 .ascending) (λ k r.
+          (let o = law .no-other (a .epoch) (map attested (agreeing a (m .acks))) b made in
+          let two = law .sound .set (a .epoch) (o .0) (o .1) .least in
+          let q = o .2 .quorate in
+          let mine = c .high l in
+          let n = lonely (a .signer) (signersOf (map attested (agreeing a (m .acks)))) (o .2 .ascending) (λ k r.
           (let x = one-behind k r in
           let h = i .acks (x .0) (x .1 .among) .high (omega (arith, x .1 .height)) in
           let e : own p (a .epoch) ≡ Some (x .0 .signer) = ap (own p) (sym (x .1 .epoch)) ∙ h in
           let f : x .0 .signer ≡ a .signer = cc in
           sym (x .2) ∙ f)) in
-        absurd (omega arith)) ]
+          absurd (omega arith))
+    ]
 
     assembled-ok : low s (m .tip) ≤ a .height → Does hist v (core m) (certify s (record { height = a .height; digest = a .digest; bytes = b }) m)
     assembled-ok l =
@@ -197,21 +223,21 @@ module _ (back : Back) (p : Answers) (law : Lawful p) (s : Settings) (g : Bool) 
   storing hist v m a i c =
       opt-both (Does hist v (core m)) (keys p (a .epoch)) (idle m) _ (λ _. does-idle hist v m i)
       (λ ks _. cond-both (not (is-pending m (a .height)) || differs (pending-at m (a .height)) (a .digest)) (idle m) _ (Does hist v (core m)) (λ _. does-idle hist v m i)
-        (λ q. opt-both (Does hist v (core m)) (ack-of m (a .height) (a .epoch) (a .signer)) _ _
-          (λ _. (let l = pending-low hist v m (a .height) i (not-false _ (or-parts _ _ q .0)) in
-            wp-more (JInv p s g) (counted p s a (length ks) (with-acks (placed ack-below a (m .acks)) m) .acts) hist v _ _
-            (λ h u r. (r .0, record { grown = r .1 .grown; fewer = r .1 .fewer; kept = r .1 .kept; pending = r .1 .pending; epoch = r .1 .epoch; onward = r .1 .onward }))
-            (counting hist v (with-acks (placed ack-below a (m .acks)) m) a (length ks) (with-ack hist v m a i c l) c l)))
-          (λ b _. does-idle hist v m i)))
+      (λ q. opt-both (Does hist v (core m)) (ack-of m (a .height) (a .epoch) (a .signer)) _ _
+      (λ _. (let l = pending-low hist v m (a .height) i (not-false _ (or-parts _ _ q .0)) in
+      wp-more (JInv p s g) (counted p s a (length ks) (with-acks (placed ack-below a (m .acks)) m) .acts) hist v _ _
+      (λ h u r. (r .0, record { grown = r .1 .grown; fewer = r .1 .fewer; kept = r .1 .kept; pending = r .1 .pending; epoch = r .1 .epoch; onward = r .1 .onward }))
+      (counting hist v (with-acks (placed ack-below a (m .acks)) m) a (length ks) (with-ack hist v m a i c l) c l)))
+      (λ b _. does-idle hist v m i)))
 
   pub restoring-from : (d : Bytes) (e : ℕ) (l : List Ack) (hist : List Act) (v : Log) (m : Mem) → Inv back p s g hist v (core m) → ((a : Ack) → List·Memᴰ a l → Sourced back p s g hist v a) → Does hist v (core m) (restore-from p s d e l m)
   restoring-from d e [] hist v m i f = does-idle hist v m i
   restoring-from d e (a ∷ l) hist v m i f =
       cond-both (not (eqb (a .epoch) e) && is-certified m (a .height)) (idle m) _ (Does hist v (core m)) (λ _. does-idle hist v m i)
       (λ _. cond-both (sameBytes (a .digest) d) _ _ (Does hist v (core m))
-        (λ _. does-then hist v (core m) (store p s a m) (restore-from p s d (a .epoch) l) (storing hist v m a i (f a (List·Memᴰ·head refl)))
-          (λ h u j st. restoring-from d (a .epoch) l h u (store p s a m .mem) j (λ b n. sourced-on back p s g hist v (core m) h u (core (store p s a m .mem)) b st (f b (List·Memᴰ·tail n)))))
-        (λ _. restoring-from d (a .epoch) l hist v m i (λ b n. f b (List·Memᴰ·tail n))))
+      (λ _. does-then hist v (core m) (store p s a m) (restore-from p s d (a .epoch) l) (storing hist v m a i (f a (List·Memᴰ·head refl)))
+      (λ h u j st. restoring-from d (a .epoch) l h u (store p s a m .mem) j (λ b n. sourced-on back p s g hist v (core m) h u (core (store p s a m .mem)) b st (f b (List·Memᴰ·tail n)))))
+      (λ _. restoring-from d (a .epoch) l hist v m i (λ b n. f b (List·Memᴰ·tail n))))
 
   pub restoring : (d : Bytes) (l : List Ack) (hist : List Act) (v : Log) (m : Mem) → Inv back p s g hist v (core m) → ((a : Ack) → List·Memᴰ a l → Sourced back p s g hist v a) → Does hist v (core m) (restore p s d l m)
   restoring d [] hist v m i f = does-idle hist v m i

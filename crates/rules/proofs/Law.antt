@@ -80,6 +80,7 @@ module _ (back : Back) (sizes : Sizes) (p : Answers) (law : Lawful p) (s : Setti
       so stays u i q = inv-firmer back p law s g (hist ++ done) u w (core m) i q
       so (runs n) u i q = inv-firmer back p law s g (hist ++ done) u w (core n) i q
       so closes u i q = firmer p s g (hist ++ done) u w i q
+
       finish : (r : Ended) → Sound (JInv p s g) (λ h u. Ok-after back p law s g h u m (pl .after)) (hist ++ done) r w → Ends r pl (running m k) j a y → Eng (hist ++ done) w y
       finish whole z (_, e) = let t = z .ends refl in subst (Eng (hist ++ done) w) (sym e) (so (pl .after) (t .0) (t .1) (t .2))
       finish full z (_, e) = subst (Eng (hist ++ done) w) (sym e) (z .stops (λ q. apart (cc)))
@@ -112,6 +113,7 @@ module _ (back : Back) (sizes : Sizes) (p : Answers) (law : Lawful p) (s : Setti
       so stays (halted k) st id i = i
       so (runs n) x st id i = absurd id
       so closes x st id i = i
+
       finish : (r : Ended) → Sound (JInv p s g) (JInv p s g) (hist ++ done) r w → Ends r pl x j a y → Eng (hist ++ done) w y
       finish whole z (_, e) = let t = z .ends refl in subst (Eng (hist ++ done) w) (sym e) (so (pl .after) x st (q .idle) (firmer p s g (hist ++ done) (t .0) w (t .1) (t .2)))
       finish full z (_, e) = subst (Eng (hist ++ done) w) (sym e) (z .stops (λ q. apart (cc)))
@@ -146,6 +148,7 @@ module _ (back : Back) (sizes : Sizes) (p : Answers) (law : Lawful p) (s : Setti
       so x stays z u i t = firmer p s g (hist ++ done) u w i t
       so x (runs n) z u i t = inv-firmer back p law s g (hist ++ done) u w (core n) (i (λ k. up x k n z)) t
       so x closes z u i t = firmer p s g (hist ++ done) u w i t
+
       finish : (o : Ended) → r ≡ o → Sound (JInv p s g) (λ h u. Open-ok back p law s g e now v h u (pl .after)) (hist ++ done) r w → Ends r pl shut j a y → Eng (hist ++ done) w y
       finish whole x z t =
           let t′ = subst (λ o. Ends o pl shut j a y) x t in
@@ -344,7 +347,8 @@ module _ (back : Back) (sizes : Sizes) (p : Answers) (law : Lawful p) (s : Setti
     told = λ c m. absurd (List·Memᴰ·not-nil m);
     backed = λ c m. absurd (List·Memᴰ·not-nil m);
     agree = λ q a b x. elim x [ inl r ↦ absurd (none-in _ _ (r .1)) | inr m ↦ elim m [ inl n ↦ absurd (List·Memᴰ·not-nil n) | inr n ↦ absurd (List·Memᴰ·not-nil (n .1)) ] ];
-    shown = λ q a x. elim x [ inl n ↦ absurd (List·Memᴰ·not-nil n) | inr n ↦ absurd (List·Memᴰ·not-nil (n .1)) ] }
+    shown = λ q a x. elim x [ inl n ↦ absurd (List·Memᴰ·not-nil n) | inr n ↦ absurd (List·Memᴰ·not-nil (n .1)) ];
+  }
 
   abbrev Prem : List Deed → Type 0
   Prem past = g ≡ true → Rising past × None-under-own-key p past
@@ -407,24 +411,28 @@ module _ (back : Back) (sizes : Sizes) (p : Answers) (law : Lawful p) (s : Setti
       let i = run-inv run (earlier d past q) in
       let pl = plan p s (x .engine) (x .log) None e in
       let fair : Fair (acts-in past) (x .log) (x .engine) e (c .ended) = record {
-            foreign = λ k b room f t o. q t .1 k b room (c .ended) a done (List·Memᴰ·head (ap (λ u. called (c .ended) u a done) (sym f))) o;
-            up = λ f now room u w t n r b k.
-              (let ran : a ≡ pl .answer = subst (λ o. Ends o pl (x .engine) (c .desk) a (y .engine)) w (c .left) .0 in
-              let good : a ≡ ok = ran ∙ subst (λ o. plan p s (x .engine) (x .log) None o .after ≡ runs n → plan p s (x .engine) (x .log) None o .answer ≡ ok) (sym u) (opened-ok (x .engine) (x .log) f now room n) r in
-              q t .0 .0 f now room u good (b .epoch) (i .signs b (source-of back p s g (acts-in past) (x .log) (jour (acts-in past) (x .log) (x .engine) (i .eng)) (ack b) k .0))) } in
+        foreign = λ k b room f t o. q t .1 k b room (c .ended) a done (List·Memᴰ·head (ap (λ u. called (c .ended) u a done) (sym f))) o;
+        up = λ f now room u w t n r b k.
+            (let ran : a ≡ pl .answer = subst (λ o. Ends o pl (x .engine) (c .desk) a (y .engine)) w (c .left) .0 in
+            let good : a ≡ ok = ran ∙ subst (λ o. plan p s (x .engine) (x .log) None o .after ≡ runs n → plan p s (x .engine) (x .log) None o .answer ≡ ok) (sym u) (opened-ok (x .engine) (x .log) f now room n) r in
+            q t .0 .0 f now room u good (b .epoch) (i .signs b (source-of back p s g (acts-in past) (x .log) (jour (acts-in past) (x .log) (x .engine) (i .eng)) (ack b) k .0)));
+      } in
       record {
         eng = called-eng (x .engine) (acts-in past) (x .log) e room (c .ended) done (y .log) (c .desk) a (y .engine) (i .eng) z fair (c .did) (c .left);
         signs = λ b m. elim (List·Memᴰ·append-cases (acts-in past) m) [
-            inl n ↦ accepted-on d (b .epoch) past (i .signs b n)
-          | inr n ↦ accepted-on d (b .epoch) past (signed-when (x .engine) past b (i .now) (plan-signs (x .engine) (x .log) e b (did-in room (pl .acts) (x .log) (desk-of (x .engine)) (c .ended) done (y .log) (c .desk) (sign b) (c .did) n))) ];
-        now = now-after (x .engine) past e pl (c .ended) (c .desk) a (y .engine) done (i .now) (plan-epochs (x .engine) (x .log) e) (c .left) }
+          | inl n ↦ accepted-on d (b .epoch) past (i .signs b n)
+          | inr n ↦ accepted-on d (b .epoch) past (signed-when (x .engine) past b (i .now) (plan-signs (x .engine) (x .log) e b (did-in room (pl .acts) (x .log) (desk-of (x .engine)) (c .ended) done (y .log) (c .desk) (sign b) (c .did) n)))
+        ];
+        now = now-after (x .engine) past e pl (c .ended) (c .desk) a (y .engine) done (i .now) (plan-epochs (x .engine) (x .log) e) (c .left);
+      }
 
   pub ledger : {x : Sys} {past : List Deed} → Run p s x past → Prem past → JInv p s g (acts-in past) (x .log)
   ledger {x} {past} run q = jour (acts-in past) (x .log) (x .engine) (run-inv run q .eng)
 
 pub promises : Back → Sizes → Promises
 promises back sizes p s x past law run =
-    let i = ledger back sizes p law s false run (λ z. apart (cc)) in
-    ((λ c d m n e. (let q = i .one c d (inr m) (inr n) e in (ap (λ z. z .digest) q, ap (λ z. z .bytes) q)), λ c m. i .backed c m),
-     λ up alone a b m n o r e h. ledger back sizes p law s true run (λ _. (up, alone)) .agree refl a b (inr m) (inr n) o r e h,
-     slips-law p s x past run)
+    let i = ledger back sizes p law s false run (λ z. apart (cc)) in (
+      (λ c d m n e. (let q = i .one c d (inr m) (inr n) e in (ap (λ z. z .digest) q, ap (λ z. z .bytes) q)), λ c m. i .backed c m),
+      λ up alone a b m n o r e h. ledger back sizes p law s true run (λ _. (up, alone)) .agree refl a b (inr m) (inr n) o r e h,
+      slips-law p s x past run,
+    )

@@ -87,10 +87,11 @@ quiet hist a x q l m =
 pub lower-section : (h k n : ℕ) → 0 < n → h / n < k / n → h < k
 lower-section h k n pos l =
     elim (cases-lt h k) [
-      inl u ↦ u
-    | inr u ↦ absurd (
-        let a : h < n * (k / n) = (let e = mul-comm n (k / n) in subst (λ z. h < z) (sym e) (div-lt-iff-lt-mul pos .0 l)) in
-        let b = mul-div-le k n in omega arith) ]
+      | inl u ↦ u
+      | inr u ↦ absurd (
+          let a : h < n * (k / n) = (let e = mul-comm n (k / n) in subst (λ z. h < z) (sym e) (div-lt-iff-lt-mul pos .0 l)) in
+          let b = mul-div-le k n in omega arith)
+    ]
 
 module _ (p : Answers) (s : Settings) (g : Bool) where
   -- a signer of an epoch stands behind a certificate
@@ -153,14 +154,16 @@ module _ (p : Answers) (s : Settings) (g : Bool) where
     backed = j .backed;
     agree = λ q a b x y. j .agree q a b (out a x) (out b y);
     shown = λ q a x o. elim (j .shown q a x o) [ inl u ↦ inl (u .0, keep _ _ (u .1)) | inr u ↦ inr (passed (a .height) u) ];
-    }
+  }
     where
       stand : (c : Cert) → Stands hist w c → Stands hist v c
       stand c (inl u) = inl (u .0, back _ _ (u .1))
       stand c (inr u) = inr u
+
       out : (a : Ack) → Out hist w a → Out hist v a
       out a (inl u) = inl (u .0, back _ _ (u .1))
       out a (inr u) = inr u
+
       passed : (h : ℕ) → Passed h v → Passed h w
       passed h (t, d, l) = (t, (d .0, keep _ _ (d .1)), l)
 
@@ -180,16 +183,19 @@ module _ (p : Answers) (s : Settings) (g : Bool) where
     backed = j .backed;
     agree = λ q a b x y. j .agree q a b (out a x) (out b y);
     shown = λ q a x o. elim (j .shown q a x o) [ inl u ↦ kept (ack a) u | inr u ↦ inr (passed (a .height) u) ];
-    }
+  }
     where
       stand : (c : Cert) → Stands hist w c → Stands hist v c
       stand c (inl u) = inl (u .0, back _ _ (u .1))
       stand c (inr u) = inr u
+
       out : (a : Ack) → Out hist w a → Out hist v a
       out a (inl u) = inl (u .0, back _ _ (u .1))
       out a (inr u) = inr u
+
       kept : (x : Activity) → RecD x v → RecD x w ⊎ Passed (height-of x) w
       kept x (sm, d) = elim (keep _ _ d) [ inl u ↦ inl (sm, u) | inr u ↦ inr (t, here, lower-section (height-of x) (low s t) (s .per-section) pos u) ]
+
       passed : (h : ℕ) → Passed h v → Passed h w
       passed h (k, d, l) = let m = top k (d .0, dur-in _ _ v (d .1)) in (t, here, omega arith)
 
@@ -212,14 +218,16 @@ module _ (p : Answers) (s : Settings) (g : Bool) where
     backed = λ c m. source-on hist a (certified c) (j .backed c (quiet hist a (tell (certified c)) q refl m));
     agree = λ u x y m n. j .agree u x y (out x m) (out y n);
     shown = λ u x m o. j .shown u x (was x m) o;
-    }
+  }
     where
       stand : (c : Cert) → Stands (hist ++ (a ∷ [])) v c → Stands hist v c
       stand c (inl u) = inl u
       stand c (inr u) = inr (quiet hist a (tell (certified c)) q refl u)
+
       was : (x : Ack) → Shown-by (hist ++ (a ∷ [])) x → Shown-by hist x
       was x (inl u) = inl (quiet hist a (tell (ack x)) q refl u)
       was x (inr (t, u)) = inr (t, quiet hist a (send t x) q refl u)
+
       out : (x : Ack) → Out (hist ++ (a ∷ [])) v x → Out hist v x
       out x (inl u) = inl u
       out x (inr u) = inr (was x u)

@@ -38,13 +38,15 @@ low-heights p s past v (halted k) l run = tt
 
 pub records-fit : Records-fit
 records-fit p s x past l run =
-    let j = ledger back sizes p l s false run (λ z. apart (cc)) in
-    ((λ r m.
-      let f = j .form (r .section) (r .bytes) (reading-in (x .log) r m) in
-      record {
-        says = f .0;
-        sized = sized (f .0) (f .3);
-        written = f .1;
-        back = ap forms.read (f .1) ∙ back (f .0) (f .3);
-        placed = f .2 ∙ ap (section s) (same-height (f .0)) }),
-     low-heights p s past (x .log) (x .engine) l run)
+    let j = ledger back sizes p l s false run (λ z. apart (cc)) in (
+      (λ r m.
+          let f = j .form (r .section) (r .bytes) (reading-in (x .log) r m) in
+          record {
+            says = f .0;
+            sized = sized (f .0) (f .3);
+            written = f .1;
+            back = ap forms.read (f .1) ∙ back (f .0) (f .3);
+            placed = f .2 ∙ ap (section s) (same-height (f .0));
+          }),
+      low-heights p s past (x .log) (x .engine) l run,
+    )

@@ -79,8 +79,9 @@ module _ {A : Type 0} where
   any-in p [] e = let z : _≡_ {A = ℕ} 0 1 = cc in absurd (omega arith)
   any-in p (x ∷ xs) e =
       elim (or-cases (p x) (any p xs) e) [
-        inl u ↦ (x, List·Memᴰ·head refl, u)
-      | inr u ↦ (let i = any-in p xs u in (i .0, List·Memᴰ·tail (i .1), i .2)) ]
+        | inl u ↦ (x, List·Memᴰ·head refl, u)
+        | inr u ↦ (let i = any-in p xs u in (i .0, List·Memᴰ·tail (i .1), i .2))
+      ]
 
   pub in-any : (p : A → Bool) (x : A) (xs : List A) → p x ≡ true → List·Memᴰ x xs → any p xs ≡ true
   in-any p x [] q m = absurd (List·Memᴰ·not-nil m)
@@ -103,10 +104,11 @@ any-placed h c (y ∷ xs) e =
     let Q : List Cert → Type 0 = λ l. any (of-height h) l ≡ true in
     cond-both (ltb (c .height) (y .height)) (c ∷ y ∷ xs) (cond (ltb (y .height) (c .height)) (y ∷ placed (λ a b. ltb (a .height) (b .height)) c xs) (c ∷ xs)) Q (λ _. or-right (of-height h c) (any (of-height h) (y ∷ xs)) e)
     (λ a. cond-both (ltb (y .height) (c .height)) (y ∷ placed (λ a b. ltb (a .height) (b .height)) c xs) (c ∷ xs) Q
-      (λ _. elim (or-cases (of-height h y) (any (of-height h) xs) e) [ inl u ↦ or-left (of-height h y) (any (of-height h) (placed (λ a b. ltb (a .height) (b .height)) c xs)) u | inr u ↦ or-right (of-height h y) (any (of-height h) (placed (λ a b. ltb (a .height) (b .height)) c xs)) (i u) ])
-      (λ b. elim (or-cases (of-height h y) (any (of-height h) xs) e) [
-          inl u ↦ (let k = eqb-true (y .height) h u in let l = ltb-false (c .height) (y .height) a in let m = ltb-false (y .height) (c .height) b in or-left (of-height h c) (any (of-height h) xs) (eq-eqb (c .height) h (omega arith)))
-        | inr u ↦ or-right (of-height h c) (any (of-height h) xs) u ]))
+    (λ _. elim (or-cases (of-height h y) (any (of-height h) xs) e) [ inl u ↦ or-left (of-height h y) (any (of-height h) (placed (λ a b. ltb (a .height) (b .height)) c xs)) u | inr u ↦ or-right (of-height h y) (any (of-height h) (placed (λ a b. ltb (a .height) (b .height)) c xs)) (i u) ])
+    (λ b. elim (or-cases (of-height h y) (any (of-height h) xs) e) [
+      | inl u ↦ (let k = eqb-true (y .height) h u in let l = ltb-false (c .height) (y .height) a in let m = ltb-false (y .height) (c .height) b in or-left (of-height h c) (any (of-height h) xs) (eq-eqb (c .height) h (omega arith)))
+      | inr u ↦ or-right (of-height h c) (any (of-height h) xs) u
+    ]))
 
 -- numbers from a on
 pub from-in : (h a n : ℕ) → List·Memᴰ h (from a n) → (a ≤ h) × (h < a + n)

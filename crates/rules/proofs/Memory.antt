@@ -98,14 +98,16 @@ module _ (back : Back) (p : Answers) (s : Settings) (g : Bool) where
     kept = λ z u. y .kept z (x .kept z u);
     pending = λ z m. x .pending z (y .pending z m);
     epoch = y .epoch ∙ x .epoch;
-    onward = (let a = x .onward in let b = y .onward in omega arith) }
+    onward = (let a = x .onward in let b = y .onward in omega arith);
+  }
 
   pub sourced-on : (hist : List Act) (v : Log) (k : Core) (hist′ : List Act) (w : Log) (l : Core) (a : Ack) → Step hist v k hist′ w l → Sourced hist v a → Sourced hist′ w a
   sourced-on hist v k hist′ w l a st c = record {
     sized = c .sized;
     source = elim (c .source) [ inl u ↦ inl (st .grown (hear a) u) | inr u ↦ inr (st .grown (sign a) u) ];
     high = c .high;
-    kept = λ q o. st .kept (ack a) (c .kept q o) }
+    kept = λ q o. st .kept (ack a) (c .kept q o);
+  }
 
   -- a durable record that no tip has passed
   pub not-passed : (hist : List Act) (v : Log) (k : Core) → Inv hist v k → (h : ℕ) → low s (k .tip) ≤ h → Passed p s g h v → ⊥
@@ -145,14 +147,18 @@ module _ (back : Back) (p : Answers) (s : Settings) (g : Bool) where
       let j1 : JInv p s g hist v1 = entered back p s g hist v j x m src free in
       let j2 : JInv p s g h1 v1 = hush p s g hist v1 (append t x) j1 refl in
       let j3 : JInv p s g h1 v2 = less p s g h1 v1 v2 j2 (λ k b i. synced-in t k b v1 i) (λ k b d. dur-synced t k b v1 d) in
-      let j4 : JInv p s g h2 v2 = hush p s g h1 v2 (sync t) j3 refl in
-      (λ room r w z. stop-append hist v x j j1 room r w z, λ _.
-        (λ room r w z. stop-sync h1 v1 j2 r w z, λ _.
-          q h2 v2 (record {
-            jour = j4;
-            here = (m, new-synced t (write x) v1 (new-appended t (write x) v));
-            grown = λ a n. further (sync t) a (further (append t x) a n);
-            loudly = λ a l n. quiet hist (append t x) a refl l (quiet h1 (sync t) a refl l n);
-            known = λ y r. old-or-new back p s g x y v m (r .0, synced-in t _ _ v1 (r .1));
-            kept = λ y r. (r .0, dur-synced t _ _ v1 (dur-appended t (write x) _ _ v (r .1)));
-          })))
+      let j4 : JInv p s g h2 v2 = hush p s g h1 v2 (sync t) j3 refl in (
+        λ room r w z. stop-append hist v x j j1 room r w z,
+        λ _. (
+          λ room r w z. stop-sync h1 v1 j2 r w z,
+          λ _.
+              q h2 v2 (record {
+                jour = j4;
+                here = (m, new-synced t (write x) v1 (new-appended t (write x) v));
+                grown = λ a n. further (sync t) a (further (append t x) a n);
+                loudly = λ a l n. quiet hist (append t x) a refl l (quiet h1 (sync t) a refl l n);
+                known = λ y r. old-or-new back p s g x y v m (r .0, synced-in t _ _ v1 (r .1));
+                kept = λ y r. (r .0, dur-synced t _ _ v1 (dur-appended t (write x) _ _ v (r .1)));
+              }),
+        ),
+      )

@@ -37,8 +37,9 @@ module _ (back : Back) (p : Answers) (s : Settings) (g : Bool) where
         let h = i .certs d r (omega arith) in
         absurd (false≢true (sym new ∙ ap (λ z. any (of-height z) (m .certs)) (sym e) ∙ h))
     none-stands d (inr t) e = elim (i .jour .told d t) [
-        inl r ↦ (let h = i .certs d (r .0, dur-in _ _ v (r .1)) (omega arith) in absurd (false≢true (sym new ∙ ap (λ z. any (of-height z) (m .certs)) (sym e) ∙ h)))
-      | inr q ↦ absurd (not-passed back p s g hist v (core m) i (d .height) (omega arith) q) ]
+      | inl r ↦ (let h = i .certs d (r .0, dur-in _ _ v (r .1)) (omega arith) in absurd (false≢true (sym new ∙ ap (λ z. any (of-height z) (m .certs)) (sym e) ∙ h)))
+      | inr q ↦ absurd (not-passed back p s g hist v (core m) i (d .height) (omega arith) q)
+    ]
 
     free : Free back p s g (hist ++ (make c ∷ [])) v (certified c)
     free d (inl r) e = none-stands d (inl r) e
@@ -51,10 +52,12 @@ module _ (back : Back) (p : Answers) (s : Settings) (g : Bool) where
       kept = λ x q. elim q [ inl r ↦ inl (a .kept x r) | inr r ↦ inr (r .0, a .kept (tip (r .0)) (r .1), r .2) ];
       pending = λ x n. n;
       epoch = refl;
-      onward = high-more (λ x. x .height + 1) _ _ (m .pending) (high-placed (m .tip) c (m .certs)) }
+      onward = high-more (λ x. x .height + 1) _ _ (m .pending) (high-placed (m .tip) c (m .certs));
+    }
       where
         shown : (y : Act) → loud y ≡ true → (y ≡ tell (certified c) → ⊥) → List·Memᴰ y (h ++ (tell (certified c) ∷ [])) → List·Memᴰ y hist
         shown y q ne n = elim (List·Memᴰ·append-cases h n) [ inl o ↦ quiet hist (make c) y refl q (a .loudly y q o) | inr o ↦ absurd (ne (List·Memᴰ·eq-of-singleton o)) ]
+
         fewer : (x : Ack) → Out p s g (h ++ (tell (certified c) ∷ [])) u x → Out p s g hist v x
         fewer x (inl r) = elim (a .known (ack x) r) [ inl w ↦ inl w | inr e ↦ apart (cc) ]
         fewer x (inr (inl n)) = inr (inl (shown (tell (ack x)) refl (λ e. apart (cc)) n))
@@ -65,13 +68,21 @@ module _ (back : Back) (p : Answers) (s : Settings) (g : Bool) where
         let st = announce-step h u a in
         record {
           jour = tells back p s g h u (a .jour) (certified c) (a .here);
-          pos = i .pos; wide = i .wide; top = i .top; epoch = i .epoch;
+          pos = i .pos;
+          wide = i .wide;
+          top = i .top;
+          epoch = i .epoch;
           tips = λ t r. elim (a .known (tip t) r) [ inl w ↦ i .tips t w | inr e ↦ apart (cc) ];
           certs = λ d r o. elim (a .known (certified d) r) [
-              inl w ↦ any-placed (d .height) c (m .certs) (i .certs d w o)
-            | inr e ↦ (let q : d ≡ c = cc in in-any (of-height (d .height)) c _ (eq-eqb (c .height) (d .height) (ap (λ z. z .height) (sym q))) (placed-here (λ (x y : Cert). ltb (x .height) (y .height)) c (m .certs))) ];
+            | inl w ↦ any-placed (d .height) c (m .certs) (i .certs d w o)
+            | inr e ↦ (let q : d ≡ c = cc in in-any (of-height (d .height)) c _ (eq-eqb (c .height) (d .height) (ap (λ z. z .height) (sym q))) (placed-here (λ (x y : Cert). ltb (x .height) (y .height)) c (m .certs)))
+          ];
           high = λ d n. elim (placed-in (λ (x y : Cert). ltb (x .height) (y .height)) c d (m .certs) n) [ inl e ↦ subst (λ z. z .height < 2 ^ 62) (sym e) (size .high) | inr o ↦ i .high d o ];
-          seats = i .seats; over = i .over; under = i .under; same = i .same; digests = i .digests;
+          seats = i .seats;
+          over = i .over;
+          under = i .under;
+          same = i .same;
+          digests = i .digests;
           acks = λ x n. sourced-on back p s g hist v (core m) _ u (core (with-cert c m)) x st (i .acks x n);
           above = i .above;
           epochs = λ q x r. elim (a .known (ack x) r) [ inl w ↦ i .epochs q x w | inr e ↦ apart (cc) ];
@@ -83,11 +94,13 @@ module _ (back : Back) (p : Answers) (s : Settings) (g : Bool) where
     Announced h u = Inv back p s g h u (core (with-cert c m)) × Step back p s g hist v (core m) h u (core (with-cert c m))
 
     pub announcing : WP (JInv p s g) (announced s c (with-cert c m) .acts) hist v (λ h u. Inv back p s g h u (core (with-cert c m)) × Step back p s g hist v (core m) h u (core (with-cert c m)))
-    announcing =
-        (λ room r w z. absurd z, λ _.
+    announcing = (
+      λ room r w z. absurd z,
+      λ _.
           wp-then (JInv p s g) (append (place p s g (certified c)) (certified c) ∷ sync (place p s g (certified c)) ∷ []) (tell (certified c) ∷ []) (hist ++ (make c ∷ [])) v Announced
           (recording back p s g (hist ++ (make c ∷ [])) v (certified c) (λ h u. WP (JInv p s g) (tell (certified c) ∷ []) h u Announced) (hush p s g hist v (make c) (i .jour) refl) size (source-on p s g hist (make c) (certified c) bk) free
-            (λ h u a. (λ room r w z. absurd z, λ _. (announce-inv h u a, announce-step h u a)))))
+          (λ h u a. (λ room r w z. absurd z, λ _. (announce-inv h u a, announce-step h u a)))),
+    )
 
   -- the tip moves up to t
   module _ (hist : List Act) (v : Log) (m : Mem) (t : ℕ) (i : Inv back p s g hist v (core m)) (up : m .tip < t) (lim : t ≤ 2 ^ 62) where
@@ -132,16 +145,20 @@ module _ (back : Back) (p : Answers) (s : Settings) (g : Bool) where
         kept = λ x q. elim q [ inl r ↦ keep x r | inr r ↦ inr (t, tip-there, passing (height-of x) r) ];
         pending = λ x n. those-in _ x (m .pending) n .0;
         epoch = refl;
-        onward = next-dropped (low s t) t m (omega arith) (omega arith) }
+        onward = next-dropped (low s t) t m (omega arith) (omega arith);
+      }
         where
           shown : (y : Act) → loud y ≡ true → List·Memᴰ y ((h ++ (tell (tip t) ∷ [])) ++ (prune (section s (low s t)) ∷ [])) → List·Memᴰ y hist
           shown y q n = quiet hist (drop-below (low s t)) y refl q (a .loudly y q (quiet h (tell (tip t)) y refl q (quiet (h ++ (tell (tip t) ∷ [])) (prune (section s (low s t))) y refl q n)))
+
           fewer : (x : Ack) → Out p s g ((h ++ (tell (tip t) ∷ [])) ++ (prune (section s (low s t)) ∷ [])) (pruned (section s (low s t)) u) x → Out p s g hist v x
           fewer x (inl r) = elim (was (ack x) r) [ inl w ↦ inl w | inr e ↦ apart (cc) ]
           fewer x (inr (inl n)) = inr (inl (shown (tell (ack x)) refl n))
           fewer x (inr (inr (k, n))) = inr (inr (k, shown (send k x) refl n))
+
           keep : (x : Activity) → RecD p s g x v → RecD p s g x (pruned (section s (low s t)) u) ⊎ Passed p s g (height-of x) (pruned (section s (low s t)) u)
           keep x r = elim (stays _ _ (a .kept x r .1)) [ inl z ↦ inl (r .0, z) | inr z ↦ inr (t, tip-there, lower-section (height-of x) (low s t) (s .per-section) (i .pos) z) ]
+
           passing : (k : ℕ) → Passed p s g k v → k < low s t
           passing k (o, d, z) = let q = i .tips o (d .0, dur-in _ _ v (d .1)) in omega arith
 
@@ -150,12 +167,16 @@ module _ (back : Back) (p : Answers) (s : Settings) (g : Bool) where
           let st = move-step in
           record {
             jour = pruned-inv;
-            pos = i .pos; wide = i .wide; top = lim; epoch = i .epoch;
+            pos = i .pos;
+            wide = i .wide;
+            top = lim;
+            epoch = i .epoch;
             tips = λ k r. tops k (r .0, pruned-in (section s (low s t)) _ _ u (r .1));
             certs = λ d r o. elim (was (certified d) r) [
-                inl w ↦ (let q = any-in _ (m .certs) (i .certs d w (omega arith)) in let e = eqb-true (q .0 .height) (d .height) (q .2) in
+              | inl w ↦ (let q = any-in _ (m .certs) (i .certs d w (omega arith)) in let e = eqb-true (q .0 .height) (d .height) (q .2) in
                   in-any (of-height (d .height)) (q .0) _ (q .2) (in-those _ (q .0) (m .certs) (le-leb (low s t) (q .0 .height) (omega arith)) (q .1)))
-              | inr e ↦ apart (cc) ];
+              | inr e ↦ apart (cc)
+            ];
             high = λ d n. i .high d (those-in _ d (m .certs) n .0);
             seats = i .seats;
             over = λ x n. leb-true (low s t) (x .height) (those-in _ x (m .pending) n .1);
@@ -173,11 +194,13 @@ module _ (back : Back) (p : Answers) (s : Settings) (g : Bool) where
     Moved h u = Inv back p s g h u (core (move s t m .mem)) × Step back p s g hist v (core m) h u (core (move s t m .mem))
 
     pub moving : WP (JInv p s g) (move s t m .acts) hist v (λ h u. Inv back p s g h u (core (move s t m .mem)) × Step back p s g hist v (core m) h u (core (move s t m .mem)))
-    moving =
-        (λ room r w z. absurd z, λ _.
+    moving = (
+      λ room r w z. absurd z,
+      λ _.
           wp-then (JInv p s g) (append (place p s g (tip t)) (tip t) ∷ sync (place p s g (tip t)) ∷ []) (tell (tip t) ∷ prune (section s (low s t)) ∷ []) (hist ++ (drop-below (low s t) ∷ [])) v Moved
           (recording back p s g (hist ++ (drop-below (low s t) ∷ [])) v (tip t) (λ h u. WP (JInv p s g) (tell (tip t) ∷ prune (section s (low s t)) ∷ []) h u Moved) (hush p s g hist v (drop-below (low s t)) (i .jour) refl) lim tt tt
-            (λ h u a. (λ room r w z. absurd z, λ _. (λ room r w z. stop-prune h u a w (z .1), λ _. (move-inv h u a, move-step h u a))))))
+          (λ h u a. (λ room r w z. absurd z, λ _. (λ room r w z. stop-prune h u a w (z .1), λ _. (move-inv h u a, move-step h u a))))),
+    )
 
   -- an own ack that is shown agrees with all others of its epoch and height
   abbrev pub Fresh : List Act → Log → ℕ → ℕ → List ℕ → Type 0
@@ -203,35 +226,48 @@ module _ (back : Back) (p : Answers) (s : Settings) (g : Bool) where
     after h u d = record {
       inv = record {
         jour = d .jour;
-        pos = i .pos; wide = i .wide; top = i .top; epoch = i .epoch;
+        pos = i .pos;
+        wide = i .wide;
+        top = i .top;
+        epoch = i .epoch;
         tips = λ t r. elim (d .known (tip t) r) [ inl w ↦ i .tips t w | inr z ↦ apart (cc) ];
         certs = λ c r. elim (d .known (certified c) r) [ inl w ↦ i .certs c w | inr z ↦ apart (cc) ];
-        high = i .high; seats = i .seats; over = i .over; under = i .under; same = i .same; digests = i .digests;
+        high = i .high;
+        seats = i .seats;
+        over = i .over;
+        under = i .under;
+        same = i .same;
+        digests = i .digests;
         acks = λ x n. (let c = i .acks x n in record {
           sized = c .sized;
           source = elim (c .source) [ inl o ↦ inl (on (hear x) o) | inr o ↦ inr (on (sign x) o) ];
           high = c .high;
-          kept = λ q o. elim (c .kept q o) [ inl r ↦ inl (d .kept (ack x) r) | inr r ↦ inr (r .0, d .kept (tip (r .0)) (r .1), r .2) ] });
+          kept = λ q o. elim (c .kept q o) [ inl r ↦ inl (d .kept (ack x) r) | inr r ↦ inr (r .0, d .kept (tip (r .0)) (r .1), r .2) ];
+        });
         above = i .above;
         epochs = λ q x r. elim (d .known (ack x) r) [ inl w ↦ i .epochs q x w | inr z ↦ (let y : x ≡ a = cc in let f = ap (λ k. k .epoch) y in omega (arith, e)) ];
         verified = λ q x r f y n o. elim (d .known (ack x) r) [ inl w ↦ i .verified q x w f y n o | inr z ↦ (let k : x ≡ a = cc in ver q y n (o ∙ ap (λ c. c .height) k) ∙ ap (λ c. Some (c .digest)) (sym k)) ];
         ended = λ q x r. elim (d .known (ack x) r) [ inl w ↦ i .ended q x w | inr z ↦ (let y : x ≡ a = cc in let f = ap (λ k. k .height) y in omega (arith, l)) ];
       };
       sourced = record { sized = size; source = inr (d .grown (sign a) (latest hist (sign a))); high = λ _. mine; kept = λ _ _. inl (d .here) };
-      fresh = agree }
+      fresh = agree;
+    }
       where
         on : (y : Act) → List·Memᴰ y hist → List·Memᴰ y h
         on y n = d .grown y (further (sign a) y n)
+
         agree : Fresh h u (a .epoch) (a .height) (a .digest)
         agree q x (inl r) = λ o f k. elim (d .known (ack x) r) [ inl w ↦ fresh2 q x (inl w) o f k | inr z ↦ (let y : x ≡ a = cc in ap (λ c. c .digest) y) ]
         agree q x (inr (inl n)) = fresh2 q x (inr (inl (d .loudly (tell (ack x)) refl n)))
         agree q x (inr (inr (t, n))) = fresh2 q x (inr (inr (t, d .loudly (send t x) refl n)))
 
     pub to-sign : WP (JInv p s g) (signed s a) hist v (Signed hist v (core m) a)
-    to-sign =
-        (λ room r w z. absurd z, λ _.
+    to-sign = (
+      λ room r w z. absurd z,
+      λ _.
           recording back p s g (hist ++ (sign a ∷ [])) v (ack a) _ (hush p s g hist v (sign a) (i .jour) refl) size (latest hist (sign a), mine)
-          (λ q x o r f k. fresh2 q x o r f k) after)
+          (λ q x o r f k. fresh2 q x o r f k) after,
+    )
 
   -- an own ack is sent
   module _ (hist : List Act) (v : Log) (k : Core) (t : ℕ) (a : Ack) (i : Inv back p s g hist v k) (kept : g ≡ true → RecD p s g (ack a) v ⊎ Passed p s g (a .height) v) (fresh : Fresh hist v (a .epoch) (a .height) (a .digest)) where
@@ -256,23 +292,46 @@ module _ (back : Back) (p : Answers) (s : Settings) (g : Bool) where
       told = λ c n. i .jour .told c (said (tell (certified c)) (λ e. apart (cc)) n);
       backed = λ c n. source-on p s g hist (send t a) (certified c) (i .jour .backed c (said (tell (certified c)) (λ e. apart (cc)) n));
       agree = λ q x y m n. agree q x y (out x m) (out y n);
-      shown = λ q x m o. shown q x m (out x (inr m)) o }
+      shown = λ q x m o. shown q x m (out x (inr m)) o;
+    }
       where
         stand : (c : Cert) → Stands p s g (hist ++ (send t a ∷ [])) v c → Stands p s g hist v c
         stand c (inl u) = inl u
         stand c (inr u) = inr (said (tell (certified c)) (λ e. apart (cc)) u)
+
         shown : g ≡ true → (x : Ack) → Shown-by p s g (hist ++ (send t a ∷ [])) x → Out p s g hist v x ⊎ (x ≡ a) → Own p s g x → RecD p s g (ack x) v ⊎ Passed p s g (x .height) v
         shown q x (inl n) w o = i .jour .shown q x (inl (said (tell (ack x)) (λ e. apart (cc)) n)) o
         shown q x (inr (k, n)) w o = elim (List·Memᴰ·append-cases hist n) [
-            inl z ↦ i .jour .shown q x (inr (k, z)) o
-          | inr z ↦ (let e = List·Memᴰ·eq-of-singleton z in let f : x ≡ a = cc in subst (λ y. RecD p s g (ack y) v ⊎ Passed p s g (y .height) v) (sym f) (kept q)) ]
+          | inl z ↦ i .jour .shown q x (inr (k, z)) o
+          | inr z ↦ (let e = List·Memᴰ·eq-of-singleton z in let f : x ≡ a = cc in subst (λ y. RecD p s g (ack y) v ⊎ Passed p s g (y .height) v) (sym f) (kept q))
+        ]
 
     pub to-send : WP (JInv p s g) (send t a ∷ []) hist v (λ h u. Inv back p s g h u k)
-    to-send = (λ room r w z. absurd z, λ _. record {
-      jour = sent-jour;
-      pos = i .pos; wide = i .wide; top = i .top; epoch = i .epoch; tips = i .tips; certs = i .certs; high = i .high; seats = i .seats; over = i .over; under = i .under; same = i .same; digests = i .digests;
-      acks = λ x n. (let c = i .acks x n in record {
-        sized = c .sized;
-        source = elim (c .source) [ inl o ↦ inl (further (send t a) (hear x) o) | inr o ↦ inr (further (send t a) (sign x) o) ];
-        high = c .high; kept = c .kept });
-      above = i .above; epochs = i .epochs; verified = i .verified; ended = i .ended })
+    to-send = (
+      λ room r w z. absurd z,
+      λ _. record {
+        jour = sent-jour;
+        pos = i .pos;
+        wide = i .wide;
+        top = i .top;
+        epoch = i .epoch;
+        tips = i .tips;
+        certs = i .certs;
+        high = i .high;
+        seats = i .seats;
+        over = i .over;
+        under = i .under;
+        same = i .same;
+        digests = i .digests;
+        acks = λ x n. (let c = i .acks x n in record {
+          sized = c .sized;
+          source = elim (c .source) [ inl o ↦ inl (further (send t a) (hear x) o) | inr o ↦ inr (further (send t a) (sign x) o) ];
+          high = c .high;
+          kept = c .kept;
+        });
+        above = i .above;
+        epochs = i .epochs;
+        verified = i .verified;
+        ended = i .ended;
+      },
+    )

@@ -290,12 +290,13 @@ step : (p : Answers) (s : Settings) (fits : Space) (x : Engine) (v : Log) (e : E
 step p s fits x v e a done y w r j past i d n o acts q =
     let b = is-opening e && is-ok a in
     let q′ : cond b (Some []) (opt (since-opening past) None (λ xs. Some (xs ++ done))) ≡ Some acts =
-      sym (ap (λ z. cond z None (cond b (Some []) (opt (since-opening past) None (λ xs. Some (xs ++ done))))) o) ∙ q in
+    sym (ap (λ z. cond z None (cond b (Some []) (opt (since-opening past) None (λ xs. Some (xs ++ done))))) o) ∙ q in
     elim (choose b (since-opening past) done acts q′) [
-      inl u ↦ subst (λ z. Fine y (handed-out z)) (sym (u .1)) (tt, opened-fine p s x v e r j a y n (u .0) (was-shut p s x v e r j a y n (u .0)))
-    | inr u ↦
-        subst (Fine y) (sym (ap handed-out (u .1 .2) ∙ handed-append (u .1 .0) done))
-        (more-fine p s fits x v e r done w j a y (handed-out (u .1 .0)) (takes e) refl (u .0) d n (i (u .1 .0) (u .1 .1))) ]
+      | inl u ↦ subst (λ z. Fine y (handed-out z)) (sym (u .1)) (tt, opened-fine p s x v e r j a y n (u .0) (was-shut p s x v e r j a y n (u .0)))
+      | inr u ↦
+          subst (Fine y) (sym (ap handed-out (u .1 .2) ∙ handed-append (u .1 .0) done))
+          (more-fine p s fits x v e r done w j a y (handed-out (u .1 .0)) (takes e) refl (u .0) d n (i (u .1 .0) (u .1 .1)))
+    ]
 
 steps : (r : Ended) (p : Answers) (s : Settings) (fits : Space) (x : Engine) (v : Log) (e : Event) (a : Answer) (done : List Act) (y : Engine) (w : Log) (j : Desk) (past : List Deed) →
     Inv x past → Did fits (plan p s x v None e .acts) v (desk-of x) r done w j → Ends r (plan p s x v None e) x j a y → Inv y (called r e a done ∷ past)

@@ -91,8 +91,9 @@ there-acks a (ack k ∷ xs) (List·Memᴰ·tail m) = List·Memᴰ·tail (there-a
 tabled-in : {A : Type 0} (below : A → A → Bool) (y : A) (table l : List A) → List·Memᴰ y (tabled below table l) → List·Memᴰ y table ⊎ List·Memᴰ y l
 tabled-in below y table [] m = inl m
 tabled-in below y table (x ∷ l) m = elim (tabled-in below y (placed below x table) l m) [
-    inl u ↦ elim (placed-in below x y table u) [ inl e ↦ inr (List·Memᴰ·head e) | inr w ↦ inl w ]
-  | inr u ↦ inr (List·Memᴰ·tail u) ]
+  | inl u ↦ elim (placed-in below x y table u) [ inl e ↦ inr (List·Memᴰ·head e) | inr w ↦ inl w ]
+  | inr u ↦ inr (List·Memᴰ·tail u)
+]
 
 any-kept : (h : ℕ) (table l : List Cert) → any (of-height h) table ≡ true → any (of-height h) (tabled cert-below table l) ≡ true
 any-kept h table [] e = e
@@ -141,8 +142,9 @@ module _ (back : Back) (p : Answers) (law : Lawful p) (s : Settings) (g : Bool) 
 
     certs-high : (c : Cert) → List·Memᴰ c (certs-left s xs) → c .height < 2 ^ 62
     certs-high c n = elim (tabled-in cert-below c [] _ n) [
-        inl u ↦ absurd (List·Memᴰ·not-nil u)
-      | inr u ↦ all (certified c) (certs-there c xs (those-in (λ (d : Cert). leb (low s (top-of xs)) (d .height)) c (certs-in xs) u .0)) .0 .high ]
+      | inl u ↦ absurd (List·Memᴰ·not-nil u)
+      | inr u ↦ all (certified c) (certs-there c xs (those-in (λ (d : Cert). leb (low s (top-of xs)) (d .height)) c (certs-in xs) u .0)) .0 .high
+    ]
 
     -- an ack that is left
     pub record Left-ack (a : Ack) : Type 0 where
@@ -163,8 +165,9 @@ module _ (back : Back) (p : Answers) (law : Lawful p) (s : Settings) (g : Bool) 
 
     kept-left : (a : Ack) → List·Memᴰ a (kept-acks p e (acks-left s xs)) → List·Memᴰ a (acks-left s xs)
     kept-left a n = elim (tabled-in ack-below a [] _ n) [
-        inl u ↦ absurd (List·Memᴰ·not-nil u)
-      | inr u ↦ those-in (λ (b : Ack). opt (own-digest p e (acks-left s xs) (b .height)) true (λ d. sameBytes d (b .digest))) a (acks-left s xs) u .0 ]
+      | inl u ↦ absurd (List·Memᴰ·not-nil u)
+      | inr u ↦ those-in (λ (b : Ack). opt (own-digest p e (acks-left s xs) (b .height)) true (λ d. sameBytes d (b .digest))) a (acks-left s xs) u .0
+    ]
 
     -- a height that is left
     pub record Left-height (h : ℕ) : Type 0 where
@@ -190,7 +193,7 @@ module _ (back : Back) (p : Answers) (law : Lawful p) (s : Settings) (g : Bool) 
     digest-sized h =
         opt-both Sized-digest (own p e) None _ (λ _. tt)
         (λ i _. opt-both Sized-digest (first (is-of h e i) (acks-left s xs)) None (λ a. Some (a .digest)) (λ _. tt)
-          (λ a q. all (ack a) (left-ack a (first-in (is-of h e i) (acks-left s xs) a q .0) .there) .0 .digest))
+        (λ a q. all (ack a) (left-ack a (first-in (is-of h e i) (acks-left s xs) a q .0) .there) .0 .digest))
 
     -- where an own ack of the epoch is left, it gives the digest
     digest-given : g ≡ true → (a : Ack) → List·Memᴰ a (acks-left s xs) → a .epoch ≡ e → own-digest p e (acks-left s xs) (a .height) ≡ Some (a .digest)
@@ -199,15 +202,15 @@ module _ (back : Back) (p : Answers) (law : Lawful p) (s : Settings) (g : Bool) 
         let mine : own p e ≡ Some (a .signer) = ap (own p) (sym f) ∙ src .1 in
         opt-both (λ (o : Option Bytes). o ≡ Some (a .digest)) (own p e) None _ (λ z. apart (cc))
         (λ i z. opt-both (λ (o : Option Bytes). o ≡ Some (a .digest)) (first (is-of (a .height) e i) (acks-left s xs)) None (λ b. Some (b .digest))
-          (λ w. (let k : i ≡ a .signer = cc in
-            absurd (both-ways (is-of (a .height) e i a) (first-none (is-of (a .height) e i) (acks-left s xs) w a n) (and-from _ _ (eq-eqb (a .height) (a .height) refl) (and-from _ _ (eq-eqb (a .epoch) e f) (eq-eqb (a .signer) i (sym k)))))))
-          (λ b w.
-            let t = first-in (is-of (a .height) e i) (acks-left s xs) b w in
-            let q1 = and-parts _ _ (t .1) in
-            let q2 = and-parts _ _ (q1 .1) in
-            let rb = stands (ack b) (left-ack b (t .0) .there) in
-            let sb = source-of back p s g hist v j (ack b) rb in
-            ap Some (j .agree q b a (inl rb) (inl (stands (ack a) (left-ack a n .there))) (sb .1) (src .1) (eqb-true _ _ (q2 .0) ∙ sym f) (eqb-true _ _ (q1 .0)))))
+        (λ w. (let k : i ≡ a .signer = cc in
+        absurd (both-ways (is-of (a .height) e i a) (first-none (is-of (a .height) e i) (acks-left s xs) w a n) (and-from _ _ (eq-eqb (a .height) (a .height) refl) (and-from _ _ (eq-eqb (a .epoch) e f) (eq-eqb (a .signer) i (sym k)))))))
+        (λ b w.
+        let t = first-in (is-of (a .height) e i) (acks-left s xs) b w in
+        let q1 = and-parts _ _ (t .1) in
+        let q2 = and-parts _ _ (q1 .1) in
+        let rb = stands (ack b) (left-ack b (t .0) .there) in
+        let sb = source-of back p s g hist v j (ack b) rb in
+        ap Some (j .agree q b a (inl rb) (inl (stands (ack a) (left-ack a n .there))) (sb .1) (src .1) (eqb-true _ _ (q2 .0) ∙ sym f) (eqb-true _ _ (q1 .0)))))
 
     -- every own ack lies below the end
     reached : g ≡ true → (a : Ack) → Rec p s g (ack a) v → a .height < end (core (opened p s e now (found s xs)))
@@ -215,20 +218,22 @@ module _ (back : Back) (p : Answers) (law : Lawful p) (s : Settings) (g : Bool) 
         let base = high-base (λ (c : Cert). c .height + 1) (top-of xs) (certs-left s xs) in
         let over = high-base (λ (x : Pending). x .height + 1) (highest (λ c. c .height + 1) (top-of xs) (certs-left s xs)) (map entry (heights-left s (found s xs))) in
         elim (cases-lt (a .height) (low s (top-of xs))) [
-          inl l ↦ omega arith
-        | inr l ↦ elim (cases-bool (any (of-height (a .height)) (certs-left s xs))) [
-            inl c ↦
-              (let d = any-in (of-height (a .height)) (certs-left s xs) c in
-              let f = eqb-true (d .0 .height) (a .height) (d .2) in
-              let k = high-of (λ (c : Cert). c .height + 1) (top-of xs) (d .0) (certs-left s xs) (d .1) in
-              omega arith)
-          | inr c ↦
-              (let n = ack-left a (only (ack a) r) l c in
-              let far = leb-false _ _ (none-of (λ (b : Ack). leb (top-of xs + s .window) (b .height)) (acks-left s xs) a (or-parts _ _ near .1) n) in
-              let here : is-left (found s xs) (a .height) ≡ true = and-from _ _ (ap not c) (or-left _ _ (in-any (λ (b : Ack). eqb (b .height) (a .height)) a (acks-left s xs) (eq-eqb (a .height) (a .height) refl) n)) in
-              let h = in-those (is-left (found s xs)) (a .height) (from (low s (top-of xs)) (top-of xs + s .window - low s (top-of xs))) here (in-from (a .height) (low s (top-of xs)) (top-of xs + s .window - low s (top-of xs)) l (omega arith)) in
-              let k = high-of (λ (x : Pending). x .height + 1) (highest (λ c. c .height + 1) (top-of xs) (certs-left s xs)) (entry (a .height)) (map entry (heights-left s (found s xs))) (mapped (a .height) (heights-left s (found s xs)) h) in
-              omega arith) ] ]
+          | inl l ↦ omega arith
+          | inr l ↦ elim (cases-bool (any (of-height (a .height)) (certs-left s xs))) [
+            | inl c ↦
+                (let d = any-in (of-height (a .height)) (certs-left s xs) c in
+                let f = eqb-true (d .0 .height) (a .height) (d .2) in
+                let k = high-of (λ (c : Cert). c .height + 1) (top-of xs) (d .0) (certs-left s xs) (d .1) in
+                omega arith)
+            | inr c ↦
+                (let n = ack-left a (only (ack a) r) l c in
+                let far = leb-false _ _ (none-of (λ (b : Ack). leb (top-of xs + s .window) (b .height)) (acks-left s xs) a (or-parts _ _ near .1) n) in
+                let here : is-left (found s xs) (a .height) ≡ true = and-from _ _ (ap not c) (or-left _ _ (in-any (λ (b : Ack). eqb (b .height) (a .height)) a (acks-left s xs) (eq-eqb (a .height) (a .height) refl) n)) in
+                let h = in-those (is-left (found s xs)) (a .height) (from (low s (top-of xs)) (top-of xs + s .window - low s (top-of xs))) here (in-from (a .height) (low s (top-of xs)) (top-of xs + s .window - low s (top-of xs)) l (omega arith)) in
+                let k = high-of (λ (x : Pending). x .height + 1) (highest (λ c. c .height + 1) (top-of xs) (certs-left s xs)) (entry (a .height)) (map entry (heights-left s (found s xs))) (mapped (a .height) (heights-left s (found s xs)) h) in
+                omega arith)
+          ]
+        ]
       where
         mapped : (h : ℕ) (l : List ℕ) → List·Memᴰ h l → List·Memᴰ (entry h) (map entry l)
         mapped h [] n = absurd (List·Memᴰ·not-nil n)
@@ -237,28 +242,36 @@ module _ (back : Back) (p : Answers) (law : Lawful p) (s : Settings) (g : Bool) 
 
     opened-inv : Inv back p s g hist v (core (opened p s e now (found s xs)))
     opened-inv = record {
-      jour = j; pos = pos; wide = wide; top = top-low; epoch = le; tips = top-high; certs = certs-have; high = certs-high;
+      jour = j;
+      pos = pos;
+      wide = wide;
+      top = top-low;
+      epoch = le;
+      tips = top-high;
+      certs = certs-have;
+      high = certs-high;
       seats = λ x n. (let z = map-in (λ (k : Bytes). record { key = k; tip = 0 }) x (keys-of p e) n in subst (λ (y : Seat). y .tip < 2 ^ 62) (sym (z .2)) (omega arith));
       over = λ x n. (let z = pend x n in subst (λ y. low s (top-of xs) ≤ y .height) (sym (z .2)) (z .1 .above));
       under = λ x n. (let z = pend x n in subst (λ y. y .height < top-of xs + s .window) (sym (z .2)) (z .1 .below));
       same = λ x y n o f.
-        (let z = pend x n in let w = pend y o in
-        ap (λ k. k .verified) (z .2) ∙ ap (own-digest p e (acks-left s xs)) (ap (λ k. k .height) (sym (z .2)) ∙ f ∙ ap (λ k. k .height) (w .2)) ∙ ap (λ k. k .verified) (sym (w .2)));
+          (let z = pend x n in let w = pend y o in
+          ap (λ k. k .verified) (z .2) ∙ ap (own-digest p e (acks-left s xs)) (ap (λ k. k .height) (sym (z .2)) ∙ f ∙ ap (λ k. k .height) (w .2)) ∙ ap (λ k. k .verified) (sym (w .2)));
       digests = λ x n. (let z = pend x n in subst (λ y. Sized-digest (y .verified)) (sym (z .2)) (digest-sized (z .0)));
       acks = λ a n.
-        (let k = kept-left a n in
-        let l = left-ack a k in
-        let d = all (ack a) (l .there) in
-        let src = source-of back p s g hist v j (ack a) (stands (ack a) (l .there)) in
-        record { sized = d .0; source = inr (src .0); high = λ _. src .1; kept = λ _ _. inl d });
+          (let k = kept-left a n in
+          let l = left-ack a k in
+          let d = all (ack a) (l .there) in
+          let src = source-of back p s g hist v j (ack a) (stands (ack a) (l .there)) in
+          record { sized = d .0; source = inr (src .0); high = λ _. src .1; kept = λ _ _. inl d });
       above = λ a n. left-ack a (kept-left a n) .above;
       epochs = up;
       verified = λ q a r f x n h.
-        (let z = pend x n in
-        let eh : z .0 ≡ a .height = ap (λ k. k .height) (sym (z .2)) ∙ h in
-        let l = ack-left a (only (ack a) r) (subst (λ k. low s (top-of xs) ≤ k) eh (z .1 .above)) (subst (λ k. any (of-height k) (certs-left s xs) ≡ false) eh (z .1 .free)) in
-        ap (λ k. k .verified) (z .2) ∙ ap (own-digest p e (acks-left s xs)) eh ∙ digest-given q a l f);
-      ended = reached }
+          (let z = pend x n in
+          let eh : z .0 ≡ a .height = ap (λ k. k .height) (sym (z .2)) ∙ h in
+          let l = ack-left a (only (ack a) r) (subst (λ k. low s (top-of xs) ≤ k) eh (z .1 .above)) (subst (λ k. any (of-height k) (certs-left s xs) ≡ false) eh (z .1 .free)) in
+          ap (λ k. k .verified) (z .2) ∙ ap (own-digest p e (acks-left s xs)) eh ∙ digest-given q a l f);
+      ended = reached;
+    }
 
   -- a plan of an opening, upon the journal v: where no own ack is of a later epoch, the engine that runs then keeps the invariant
   abbrev pub Up : Log → Type 0
@@ -291,16 +304,18 @@ module _ (back : Back) (p : Answers) (law : Lawful p) (s : Settings) (g : Bool) 
     with-all xs all only =
         cond-both (eqb (found-refusal p s e room xs) 0) _ _ (Opens hist v)
         (λ q.
-          let near = all-clear (found-tests p s e room xs) (omega arith) (eqb-true _ _ q) .0 in
-          let all1 : (x : Activity) → List·Memᴰ x xs → RecD p s g x (all-synced v) = λ x n. (let r = all x n in (r .0, new-all _ _ v (r .1))) in
-          (λ room r w z. stop-sync back p s g hist v j r w z, λ _.
-            wp-more (JInv p s g) (map tell xs) (hist ++ (read None ∷ [])) (all-synced v) _ _
-            (λ h u r up.
+        let near = all-clear (found-tests p s e room xs) (omega arith) (eqb-true _ _ q) .0 in
+        let all1 : (x : Activity) → List·Memᴰ x xs → RecD p s g x (all-synced v) = λ x n. (let r = all x n in (r .0, new-all _ _ v (r .1))) in (
+          λ room r w z. stop-sync back p s g hist v j r w z,
+          λ _.
+              wp-more (JInv p s g) (map tell xs) (hist ++ (read None ∷ [])) (all-synced v) _ _
+              (λ h u r up.
               let all2 : (x : Activity) → List·Memᴰ x xs → RecD p s g x u = λ x n. subst (RecD p s g x) (sym (r .1)) (all1 x n) in
               let was : (x : Activity) → Rec p s g x u → Rec p s g x v = λ x z. (let y = subst (Rec p s g x) (r .1) z in (y .0, all-in _ _ v (y .1))) in
               filled back p law s g h u (opened p s e now (found s xs))
               (opened-inv h u (r .0) xs all2 (λ x z. only x (was x z)) pos wide le near (λ z a y. up z a (was (ack a) y))))
-            (telling xs (hist ++ (read None ∷ [])) (all-synced v) read-inv all1)))
+              (telling xs (hist ++ (read None ∷ [])) (all-synced v) read-inv all1),
+        ))
         (λ _. just-read (refused (found-refusal p s e room xs)))
 
     from-all : (xs : List Activity) (rs : List Placed) → ((x : Activity) → List·Memᴰ x xs → Rec p s g x v) → ((r : Placed) → List·Memᴰ r rs → In (r .section) (r .bytes) v) →
@@ -309,13 +324,13 @@ module _ (back : Back) (p : Answers) (law : Lawful p) (s : Settings) (g : Bool) 
     from-all xs (r ∷ rs) all here only =
         read-both (Opens hist v) (forms.read (r .bytes)) _ _ (λ w _. just-read (bad-record (r .section) (r .number) w))
         (λ y q.
-          let f = j .form (r .section) (r .bytes) (here r (List·Memᴰ·head refl)) in
-          let same : y ≡ f .0 = (let z = back (f .0) (f .3) in let w : forms.read (r .bytes) ≡ forms.read (write (f .0)) = ap forms.read (f .1) in cc) in
-          let stood : Rec p s g y v = subst (λ z. Rec p s g z v) (sym same) (f .3, subst (λ k. In k (write (f .0)) v) (f .2) (subst (λ b. In (r .section) b v) (f .1) (here r (List·Memᴰ·head refl)))) in
-          from-all (xs ++ (y ∷ [])) rs
-          (λ x n. elim (List·Memᴰ·append-cases xs n) [ inl o ↦ all x o | inr o ↦ subst (λ z. Rec p s g z v) (sym (List·Memᴰ·eq-of-singleton o)) stood ])
-          (λ z n. here z (List·Memᴰ·tail n))
-          (λ x z. sorted x z y stood (f .1 ∙ ap write (sym same)) (only x z)))
+        let f = j .form (r .section) (r .bytes) (here r (List·Memᴰ·head refl)) in
+        let same : y ≡ f .0 = (let z = back (f .0) (f .3) in let w : forms.read (r .bytes) ≡ forms.read (write (f .0)) = ap forms.read (f .1) in cc) in
+        let stood : Rec p s g y v = subst (λ z. Rec p s g z v) (sym same) (f .3, subst (λ k. In k (write (f .0)) v) (f .2) (subst (λ b. In (r .section) b v) (f .1) (here r (List·Memᴰ·head refl)))) in
+        from-all (xs ++ (y ∷ [])) rs
+        (λ x n. elim (List·Memᴰ·append-cases xs n) [ inl o ↦ all x o | inr o ↦ subst (λ z. Rec p s g z v) (sym (List·Memᴰ·eq-of-singleton o)) stood ])
+        (λ z n. here z (List·Memᴰ·tail n))
+        (λ x z. sorted x z y stood (f .1 ∙ ap write (sym same)) (only x z)))
       where
         sorted : (x : Activity) → Rec p s g x v → (y : Activity) → Rec p s g y v → r .bytes ≡ write y → List·Memᴰ x xs ⊎ ((z : Placed) × List·Memᴰ z (r ∷ rs) × (z .bytes ≡ write x)) → List·Memᴰ x (xs ++ (y ∷ [])) ⊎ ((z : Placed) × List·Memᴰ z rs × (z .bytes ≡ write x))
         sorted x u y t q (inl n) = inl (Memᴰ·append-left (y ∷ []) n)
@@ -329,6 +344,7 @@ module _ (back : Back) (p : Answers) (law : Lawful p) (s : Settings) (g : Bool) 
     where
       fit : opening-refusal p s shut e now ≡ 0 → (0 < s .per-section) × (s .window ≤ 8)
       fit q = fits s (not-false (allowed s) (all-clear (opening-tests p s shut e now) (omega arith) q .1 .0))
+
       go : (n : ℕ) → opening-refusal p s shut e now ≡ n → Opens hist v (or-refuse n (open-from p s e now room [] None (those (before None) (reading (v .sections)))))
       go zero q =
           let f = fit q in

@@ -50,8 +50,8 @@ module _ (t : ℕ) (c : Bytes) where
   kept-on f g s b (x ∷ xs) i =
       cond-both (ltb t (x .number)) (one ∷ x ∷ xs) (cond (eqb t (x .number)) (more x ∷ xs) (x ∷ added t c xs)) (Has f s b) (λ _. inr i)
       (λ _. cond-both (eqb t (x .number)) (more x ∷ xs) (x ∷ added t c xs) (Has f s b)
-        (λ _. elim i [ inl u ↦ inl (u .0, g x b (u .1)) | inr u ↦ inr u ])
-        (λ _. elim i [ inl u ↦ inl u | inr u ↦ inr (kept-on f g s b xs u) ]))
+      (λ _. elim i [ inl u ↦ inl (u .0, g x b (u .1)) | inr u ↦ inr u ])
+      (λ _. elim i [ inl u ↦ inl u | inr u ↦ inr (kept-on f g s b xs u) ]))
 
   pub in-appended : (s : ℕ) (b : Bytes) (v : Log) → In s b v → In s b (appended t c v)
   unfolding appended
@@ -67,8 +67,8 @@ module _ (t : ℕ) (c : Bytes) where
   there (x ∷ xs) =
       cond-both (ltb t (x .number)) (one ∷ x ∷ xs) (cond (eqb t (x .number)) (more x ∷ xs) (x ∷ added t c xs)) (Has every t c) (λ _. inl (refl, List·Memᴰ·head refl))
       (λ _. cond-both (eqb t (x .number)) (more x ∷ xs) (x ∷ added t c xs) (Has every t c)
-        (λ q. inl (sym (eqb-true t (x .number) q), Memᴰ·append-right (x .durable) (Memᴰ·append-right (x .loose) (List·Memᴰ·head refl))))
-        (λ _. inr (there xs)))
+      (λ q. inl (sym (eqb-true t (x .number) q), Memᴰ·append-right (x .durable) (Memᴰ·append-right (x .loose) (List·Memᴰ·head refl))))
+      (λ _. inr (there xs)))
 
   pub new-appended : (v : Log) → In t c (appended t c v)
   unfolding appended
@@ -83,17 +83,22 @@ module _ (t : ℕ) (c : Bytes) where
       new : Has every s b (one ∷ x ∷ xs) → Has every s b (x ∷ xs) ⊎ ((t ≡ s) × (b ≡ c))
       new (inl u) = inr (u .0, List·Memᴰ·eq-of-singleton (u .1))
       new (inr u) = inl u
+
       here : t ≡ x .number → Has every s b (more x ∷ xs) → Has every s b (x ∷ xs) ⊎ ((t ≡ s) × (b ≡ c))
       here e (inl u) =
           elim (List·Memᴰ·append-cases (x .durable) (u .1)) [
-            inl m ↦ inl (inl (u .0, Memᴰ·append-left (x .loose) m))
-          | inr m ↦ elim (List·Memᴰ·append-cases (x .loose) m) [
-              inl n ↦ inl (inl (u .0, Memᴰ·append-right (x .durable) n))
-            | inr n ↦ inr (e ∙ u .0, List·Memᴰ·eq-of-singleton n) ] ]
+            | inl m ↦ inl (inl (u .0, Memᴰ·append-left (x .loose) m))
+            | inr m ↦ elim (List·Memᴰ·append-cases (x .loose) m) [
+              | inl n ↦ inl (inl (u .0, Memᴰ·append-right (x .durable) n))
+              | inr n ↦ inr (e ∙ u .0, List·Memᴰ·eq-of-singleton n)
+            ]
+          ]
       here e (inr u) = inl (inr u)
+
       further : (Has every s b (added t c xs) → Has every s b xs ⊎ ((t ≡ s) × (b ≡ c))) → Has every s b (x ∷ added t c xs) → Has every s b (x ∷ xs) ⊎ ((t ≡ s) × (b ≡ c))
       further rest (inl u) = inl (inl u)
       further rest (inr u) = elim (rest u) [ inl m ↦ inl (inr m) | inr m ↦ inr m ]
+
       pick : (Has every s b (added t c xs) → Has every s b xs ⊎ ((t ≡ s) × (b ≡ c))) → (p q : Bool) → eqb t (x .number) ≡ q → Has every s b (cond p (one ∷ x ∷ xs) (cond q (more x ∷ xs) (x ∷ added t c xs))) → Has every s b (x ∷ xs) ⊎ ((t ≡ s) × (b ≡ c))
       pick rest true q e j = new j
       pick rest false true e j = here (eqb-true t (x .number) e) j
@@ -300,8 +305,9 @@ unfolding AllLeft
 all-left-in below s b [] ws e i = subst (Has every s b) e i
 all-left-in below s b (x ∷ xs) ws (ys, l, (rest, a, e)) i =
     elim (kept-has s (x .number) b ys rest (subst (Has every s b) e i)) [
-      inl u ↦ inl (u .0, left-in below x ys b l (u .1))
-    | inr u ↦ inr (all-left-in below s b xs rest a u) ]
+      | inl u ↦ inl (u .0, left-in below x ys b l (u .1))
+      | inr u ↦ inr (all-left-in below s b xs rest a u)
+    ]
 
 all-left-durable : (below s : ℕ) (b : Bytes) (xs ws : List Section) → AllLeft below xs ws → Has every s b ws → Has (λ x. x .durable) s b ws
 unfolding AllLeft
@@ -315,12 +321,14 @@ unfolding AllLeft
 all-left-keeps below s b [] ws e i = absurd i
 all-left-keeps below s b (x ∷ xs) ws (ys, l, (rest, a, e)) (inl u) =
     elim (dur-left below x ys b l (u .1)) [
-      inl m ↦ inl (subst (Has (λ x. x .durable) s b) (sym e) (has-kept (λ x. x .durable) (λ x b m. m) s (x .number) b ys rest (inl (u .0, m))))
-    | inr m ↦ let q = u .0 in inr (omega arith) ]
+      | inl m ↦ inl (subst (Has (λ x. x .durable) s b) (sym e) (has-kept (λ x. x .durable) (λ x b m. m) s (x .number) b ys rest (inl (u .0, m))))
+      | inr m ↦ let q = u .0 in inr (omega arith)
+    ]
 all-left-keeps below s b (x ∷ xs) ws (ys, l, (rest, a, e)) (inr u) =
     elim (all-left-keeps below s b xs rest a u) [
-      inl m ↦ inl (subst (Has (λ x. x .durable) s b) (sym e) (has-kept (λ x. x .durable) (λ x b m. m) s (x .number) b ys rest (inr m)))
-    | inr m ↦ inr m ]
+      | inl m ↦ inl (subst (Has (λ x. x .durable) s b) (sym e) (has-kept (λ x. x .durable) (λ x b m. m) s (x .number) b ys rest (inr m)))
+      | inr m ↦ inr m
+    ]
 
 pub cut-in : (below s : ℕ) (b : Bytes) (v w : Log) → Cut below v w → In s b w → In s b v
 cut-in below s b v w c i = all-left-in below s b (v .sections) (w .sections) (c .sections) i
@@ -349,8 +357,9 @@ unfolding reading all-of
 read-has [] r m = absurd (List·Memᴰ·not-nil m)
 read-has (x ∷ xs) r m =
     elim (List·Memᴰ·append-cases (numbered (x .number) 0 (every x)) m) [
-      inl u ↦ (let i = numbered-has (x .number) 0 (every x) r u in inl (sym (i .0), i .1))
-    | inr u ↦ inr (read-has xs r u) ]
+      | inl u ↦ (let i = numbered-has (x .number) 0 (every x) r u in inl (sym (i .0), i .1))
+      | inr u ↦ inr (read-has xs r u)
+    ]
 
 has-read : (s : ℕ) (b : Bytes) (xs : List Section) → Has every s b xs → (r : Placed) × List·Memᴰ r (reading xs) × (r .section ≡ s) × (r .bytes ≡ b)
 unfolding reading all-of

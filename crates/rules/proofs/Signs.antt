@@ -80,7 +80,8 @@ still m = none (m .epoch) (idle m) tt refl
 s-then : (e : ℕ) (w : Work) (f : Mem → Work) → S e w → ((n : Mem) → n .epoch ≡ e → S e (f n)) → S e (then w f)
 s-then e w f x y = record {
   signs = λ a m. elim (List·Memᴰ·append-cases (w .acts) m) [ inl u ↦ x .signs a u | inr u ↦ y (w .mem) (x .epoch) .signs a u ];
-  epoch = y (w .mem) (x .epoch) .epoch }
+  epoch = y (w .mem) (x .epoch) .epoch;
+}
 
 at : (e : ℕ) (m : Mem) (w : Work) → m .epoch ≡ e → S (m .epoch) w → S e w
 at e m w q x = subst (λ k. S k w) q x
@@ -92,7 +93,7 @@ s-certify : (s : Settings) (c : Cert) (m : Mem) → S (m .epoch) (certify s c m)
 s-certify s c m =
     by-cond (S (m .epoch)) (is-certified m (c .height)) (idle m) (then (announced s c (with-cert c m)) (go-on s (c .height))) (still m)
     (s-then (m .epoch) (announced s c (with-cert c m)) (go-on s (c .height)) (none (m .epoch) (announced s c (with-cert c m)) (refl, (refl, (refl, (refl, tt)))) refl)
-      (λ n q. at (m .epoch) n _ q (by-cond (S (n .epoch)) (eqb (c .height) (n .tip)) (move s (first-free (length (n .certs)) (c .height + 1) n) n) (idle n) (s-move s _ n) (still n))))
+    (λ n q. at (m .epoch) n _ q (by-cond (S (n .epoch)) (eqb (c .height) (n .tip)) (move s (first-free (length (n .certs)) (c .height + 1) n) n) (idle n) (s-move s _ n) (still n))))
 
 s-assembled : (s : Settings) (a : Ack) (o : Option Bytes) (m : Mem) → S (m .epoch) (assembled s a o m)
 s-assembled s a None m = none (m .epoch) (assembled s a None m) (refl, tt) refl
@@ -105,15 +106,15 @@ s-store : (p : Answers) (s : Settings) (a : Ack) (m : Mem) → S (m .epoch) (sto
 s-store p s a m =
     by-opt (S (m .epoch)) (keys p (a .epoch)) (idle m) _ (still m)
     (λ ks. by-cond (S (m .epoch)) (not (is-pending m (a .height)) || differs (pending-at m (a .height)) (a .digest)) (idle m) _ (still m)
-      (by-opt (S (m .epoch)) (ack-of m (a .height) (a .epoch) (a .signer)) _ _ (s-counted p s a (length ks) (with-acks (placed ack-below a (m .acks)) m)) (λ b. still m)))
+    (by-opt (S (m .epoch)) (ack-of m (a .height) (a .epoch) (a .signer)) _ _ (s-counted p s a (length ks) (with-acks (placed ack-below a (m .acks)) m)) (λ b. still m)))
 
 s-restore-from : (p : Answers) (s : Settings) (d : Bytes) (e : ℕ) (l : List Ack) (m : Mem) → S (m .epoch) (restore-from p s d e l m)
 s-restore-from p s d e [] m = still m
 s-restore-from p s d e (a ∷ l) m =
     by-cond (S (m .epoch)) (not (eqb (a .epoch) e) && is-certified m (a .height)) (idle m) _ (still m)
     (by-cond (S (m .epoch)) (sameBytes (a .digest) d) _ _
-      (s-then (m .epoch) (store p s a m) (restore-from p s d (a .epoch) l) (s-store p s a m) (λ n q. at (m .epoch) n _ q (s-restore-from p s d (a .epoch) l n)))
-      (s-restore-from p s d (a .epoch) l m))
+    (s-then (m .epoch) (store p s a m) (restore-from p s d (a .epoch) l) (s-store p s a m) (λ n q. at (m .epoch) n _ q (s-restore-from p s d (a .epoch) l n)))
+    (s-restore-from p s d (a .epoch) l m))
 
 s-restore : (p : Answers) (s : Settings) (d : Bytes) (l : List Ack) (m : Mem) → S (m .epoch) (restore p s d l m)
 s-restore p s d [] m = still m
@@ -133,43 +134,43 @@ s-sign-send : (p : Answers) (s : Settings) (now h : ℕ) (d : Bytes) (m : Mem) �
 s-sign-send p s now h d m =
     opt-both (S (m .epoch)) (own-ack p m h d) (idle m) _ (λ _. still m)
     (λ a q.
-      let k = mine p m h d a q in
-      let due = due-at (now + s .timeout) h m in
-      s-then (m .epoch) (then (signing s a due) (store p s a)) (sending a)
-      (s-then (m .epoch) (signing s a due) (store p s a) (s-signing s a (m .epoch) due (k .epoch) (due-epoch (now + s .timeout) h m)) (λ n r. at (m .epoch) n _ r (s-store p s a n)))
-      (λ n r. none (m .epoch) (sending a n) (refl, tt) r))
+    let k = mine p m h d a q in
+    let due = due-at (now + s .timeout) h m in
+    s-then (m .epoch) (then (signing s a due) (store p s a)) (sending a)
+    (s-then (m .epoch) (signing s a due) (store p s a) (s-signing s a (m .epoch) due (k .epoch) (due-epoch (now + s .timeout) h m)) (λ n r. at (m .epoch) n _ r (s-store p s a n)))
+    (λ n r. none (m .epoch) (sending a n) (refl, tt) r))
 
 s-digest : (p : Answers) (s : Settings) (now h : ℕ) (d : Bytes) (m : Mem) → S (m .epoch) (digest-for p s now h d m)
 s-digest p s now h d m =
     by-opt (S (m .epoch)) (pending-at m h) (idle m) _ (still m)
     (λ x. by-opt (S (m .epoch)) (x .verified) _ _
-      (s-then (m .epoch) (restore p s d (those (λ a. eqb (a .height) h) (m .acks)) (cleared h d m)) (sign-and-send p s now h d)
-        (s-restore p s d (those (λ a. eqb (a .height) h) (m .acks)) (cleared h d m)) (λ n q. at (m .epoch) n _ q (s-sign-send p s now h d n)))
-      (λ _. still m))
+    (s-then (m .epoch) (restore p s d (those (λ a. eqb (a .height) h) (m .acks)) (cleared h d m)) (sign-and-send p s now h d)
+    (s-restore p s d (those (λ a. eqb (a .height) h) (m .acks)) (cleared h d m)) (λ n q. at (m .epoch) n _ q (s-sign-send p s now h d n)))
+    (λ _. still m))
 
 s-rebroadcast : (p : Answers) (s : Settings) (now h : ℕ) (m : Mem) → S (m .epoch) (rebroadcast p s now h m)
 s-rebroadcast p s now h m =
     by-opt (S (m .epoch)) (pending-at m h) (idle m) _ (still m)
     (λ x. by-opt (S (m .epoch)) (x .verified) (idle m) _ (still m)
-      (λ d. opt-both (S (m .epoch)) (own-ack p m h d) (idle m) _ (λ _. still m)
-        (λ a q.
-          let k = mine p m h d a q in
-          by-opt (S (m .epoch)) (ack-of m h (a .epoch) (a .signer)) _ _
-          (s-then (m .epoch) (then (signing s a m) (store p s a)) (λ y. sending a (due-at (now + s .timeout) h y))
-            (s-then (m .epoch) (signing s a m) (store p s a) (s-signing s a (m .epoch) m (k .epoch) refl) (λ n r. at (m .epoch) n _ r (s-store p s a n)))
-            (λ n r. none (m .epoch) (sending a (due-at (now + s .timeout) h n)) (refl, tt) (due-epoch (now + s .timeout) h n ∙ r)))
-          (λ b. none (m .epoch) (sending b (due-at (now + s .timeout) h m)) (refl, tt) (due-epoch (now + s .timeout) h m)))))
+    (λ d. opt-both (S (m .epoch)) (own-ack p m h d) (idle m) _ (λ _. still m)
+    (λ a q.
+    let k = mine p m h d a q in
+    by-opt (S (m .epoch)) (ack-of m h (a .epoch) (a .signer)) _ _
+    (s-then (m .epoch) (then (signing s a m) (store p s a)) (λ y. sending a (due-at (now + s .timeout) h y))
+    (s-then (m .epoch) (signing s a m) (store p s a) (s-signing s a (m .epoch) m (k .epoch) refl) (λ n r. at (m .epoch) n _ r (s-store p s a n)))
+    (λ n r. none (m .epoch) (sending a (due-at (now + s .timeout) h n)) (refl, tt) (due-epoch (now + s .timeout) h n ∙ r)))
+    (λ b. none (m .epoch) (sending b (due-at (now + s .timeout) h m)) (refl, tt) (due-epoch (now + s .timeout) h m)))))
 
 s-told : (p : Answers) (s : Settings) (k : Bytes) (t : TipAck) (m : Mem) → S (m .epoch) (told p s k t m)
 s-told p s k t m =
     s-then (m .epoch) (tip-told s k (t .tip) m) (ack-told p s k (t .ack))
     (by-cond (S (m .epoch)) (counts m k (t .tip)) (to-safe-tip s (seat-told k (t .tip) m)) (idle m)
-      (by-cond (S (m .epoch)) (ltb (m .tip) (safe-tip (seat-told k (t .tip) m .seats))) (move s (safe-tip (seat-told k (t .tip) m .seats)) (seat-told k (t .tip) m)) (idle (seat-told k (t .tip) m)) (s-move s _ (seat-told k (t .tip) m)) (still (seat-told k (t .tip) m)))
-      (still m))
+    (by-cond (S (m .epoch)) (ltb (m .tip) (safe-tip (seat-told k (t .tip) m .seats))) (move s (safe-tip (seat-told k (t .tip) m .seats)) (seat-told k (t .tip) m)) (idle (seat-told k (t .tip) m)) (s-move s _ (seat-told k (t .tip) m)) (still (seat-told k (t .tip) m)))
+    (still m))
     (λ n q. at (m .epoch) n _ q
-      (by-cond (S (n .epoch)) (eqb (checked p s k (t .ack) n) 0) _ _
-        (s-then (n .epoch) (hearing (t .ack) n) (store p s (t .ack)) (none (n .epoch) (hearing (t .ack) n) (refl, tt) refl) (λ o r. at (n .epoch) o _ r (s-store p s (t .ack) o)))
-        (none (n .epoch) _ (by-cond Unsigned (eqb (checked p s k (t .ack) n) 16 || eqb (checked p s k (t .ack) n) 21) (block k ∷ []) [] (refl, tt) tt) refl)))
+    (by-cond (S (n .epoch)) (eqb (checked p s k (t .ack) n) 0) _ _
+    (s-then (n .epoch) (hearing (t .ack) n) (store p s (t .ack)) (none (n .epoch) (hearing (t .ack) n) (refl, tt) refl) (λ o r. at (n .epoch) o _ r (s-store p s (t .ack) o)))
+    (none (n .epoch) _ (by-cond Unsigned (eqb (checked p s k (t .ack) n) 16 || eqb (checked p s k (t .ack) n) 21) (block k ∷ []) [] (refl, tt) tt) refl)))
 
 pub fill-epoch : (n : ℕ) (s : Settings) (m : Mem) → fill-by n s m .epoch ≡ m .epoch
 fill-epoch zero s m = refl
@@ -224,7 +225,7 @@ pub steady-due : (p : Answers) (s : Settings) (m : Mem) (now room : ℕ) → Ste
 steady-due p s m now room =
     or-steady (m .epoch) (refused-late now room) _
     (by-front (Steady (m .epoch)) (m .deadlines) (refuse 25) _ (idly (m .epoch) (refuse 25) tt tt)
-      (λ d ds. by-cond (Steady (m .epoch)) (ltb now (d .time)) (refuse 25) _ (idly (m .epoch) (refuse 25) tt tt) (carried s (rebroadcast p s now (d .height) (with-deadlines ds m)) ok (m .epoch) (s-rebroadcast p s now (d .height) (with-deadlines ds m)))))
+    (λ d ds. by-cond (Steady (m .epoch)) (ltb now (d .time)) (refuse 25) _ (idly (m .epoch) (refuse 25) tt tt) (carried s (rebroadcast p s now (d .height) (with-deadlines ds m)) ok (m .epoch) (s-rebroadcast p s now (d .height) (with-deadlines ds m)))))
 
 pub steady-closing : (e : ℕ) (k : Desk) → Steady e (plan-closing k)
 steady-closing e k = by-cond (Steady e) (eqb (k .out) 0) (record { acts = sync-all ∷ []; after = closes; answer = ok }) (refuse 26) (idly e _ (refl, tt) tt) (idly e (refuse 26) tt tt)

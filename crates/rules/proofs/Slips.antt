@@ -40,7 +40,8 @@ fair-calm : (e : Event) (hs : List ℕ) (k : Desk) (pl : Plan) → ((a : Answer)
 fair-calm e hs k pl same c = record {
   flow = calm-flow (pl .acts) (length hs) k (c .calm);
   ends = λ e. never (c .stay) e;
-  left = λ fits v r done w j a x y d n o. ap length (same a) ∙ sym (calm-hands done (length hs) (did-calm fits (pl .acts) v k r done w j d (c .calm))) }
+  left = λ fits v r done w j a x y d n o. ap length (same a) ∙ sym (calm-hands done (length hs) (did-calm fits (pl .acts) v k r done w j d (c .calm)));
+}
 
 -- a list of acts that begins with a slip's return
 pub data Returns : List Act → Type 0 where
@@ -67,8 +68,9 @@ fair-return e h hs k pl same m c st =
       flow = returns-flow (length hs) k c (omega arith);
       ends = λ z. never st z;
       left = λ fits v r done w j a x y d n o.
-        let g = returns-left c (length hs) k fits v r done w j d in
-        let f = ap length (same a) in omega arith }
+          let g = returns-left c (length hs) k fits v r done w j d in
+          let f = ap length (same a) in omega arith;
+    }
 
 -- the plans of a slip's return, where the caller holds the slip
 pub record Ret (pl : Plan) : Type 0 where
@@ -101,8 +103,9 @@ refused-fair e n hs k same = record {
   flow = tt;
   ends = λ z. never refl z;
   left = λ fits v r done w j a x y d i o.
-    let i′ = subst (λ z. Ends z (refuse n) x j a y) (d .0) i in
-    ap (λ z. length (held-after e z hs)) (i′ .0) ∙ ap length same ∙ ap (λ z. hands-after z (length hs)) (sym (d .1)) }
+      let i′ = subst (λ z. Ends z (refuse n) x j a y) (d .0) i in
+      ap (λ z. length (held-after e z hs)) (i′ .0) ∙ ap length same ∙ ap (λ z. hands-after z (length hs)) (sym (d .1));
+}
 
 one-act : (e : Event) (b : Act) (h : ℕ) (hs : List ℕ) (k : Desk) (f : After) → shuts f ≡ false → Able b (length hs) k →
     ((fits : Space) (v w : Log) (r : Ended) → Rattle.rules.specs.Acts.Stops fits b v r w → ⊥) →
@@ -111,13 +114,15 @@ one-act e b h hs k f st able go same more = record {
   flow = (able, tt);
   ends = λ z. never st z;
   left = λ fits v r done w j a x y d i o.
-    elim d [
-      inl q ↦ absurd (go fits v w r (q .0))
-    | inr q ↦
-      let i′ = subst (λ z. Ends z (record { acts = b ∷ []; after = f; answer = slip h }) x j a y) (q .1 .2 .0) i in
-      let u = ap (λ z. length (held-after e z hs)) (i′ .0) ∙ ap length same in
-      let t = ap (λ z. hands-after z (length hs)) (q .1 .1 ∙ ap (λ z. b ∷ z) (q .1 .2 .1)) in
-      omega arith ] }
+      elim d [
+        | inl q ↦ absurd (go fits v w r (q .0))
+        | inr q ↦
+            let i′ = subst (λ z. Ends z (record { acts = b ∷ []; after = f; answer = slip h }) x j a y) (q .1 .2 .0) i in
+            let u = ap (λ z. length (held-after e z hs)) (i′ .0) ∙ ap length same in
+            let t = ap (λ z. hands-after z (length hs)) (q .1 .1 ∙ ap (λ z. b ∷ z) (q .1 .2 .1)) in
+            omega arith
+      ];
+}
 
 fair-take : (m : Mem) (l hs : List ℕ) (k : Desk) → Fair taking hs k (take-first m l)
 fair-take m [] hs k = refused-fair taking 23 hs k refl
@@ -133,8 +138,9 @@ fair-close : (hs : List ℕ) (k : Desk) → Fair closing hs k (plan-closing k)
 fair-close hs k = record {
   flow = calm-flow _ (length hs) k (calm-closing k);
   ends = cond-both (eqb (k .out) 0) (record { acts = Rattle.rules.specs.Acts.sync-all ∷ []; after = closes; answer = ok }) (refuse 26) (λ pl. shuts (pl .after) ≡ true → (k .out ≡ 0) × Calm (pl .acts))
-    (λ z _. (eqb-true (k .out) 0 z, ((λ n k. tt, λ n. refl, refl), tt))) (λ _ z. never refl z);
-  left = λ fits v r done w j a x y d n o. sym (calm-hands done (length hs) (did-calm fits (plan-closing k .acts) v k r done w j d (calm-closing k))) }
+      (λ z _. (eqb-true (k .out) 0 z, ((λ n k. tt, λ n. refl, refl), tt))) (λ _ z. never refl z);
+  left = λ fits v r done w j a x y d n o. sym (calm-hands done (length hs) (did-calm fits (plan-closing k .acts) v k r done w j d (calm-closing k)));
+}
 
 fair : (p : Answers) (s : Settings) (x : Engine) (v : Log) (e : Event) (hs : List ℕ) → Whole (length hs) (desk-of x) → Held e hs → Fair e hs (desk-of x) (plan p s x v None e)
 fair p s x v (opening e now room) hs w m = fair-calm (opening e now room) hs (desk-of x) _ (λ a. refl) (calm-opening p s x v None e now room)
@@ -265,28 +271,31 @@ live p s fits x v e a done y w r j past i m d n o =
     let new : hands (called r e a done ∷ past) ≡ held-after e a hs = ap (λ q. cond q [] (held-after e a hs)) o in
     let count : length (hands (called r e a done ∷ past)) ≡ hands-after done (length hs) = ap length new ∙ f .left fits v r done w j a x y d n o in
     let at-shut : x ≡ shut → j ≡ no-slips = λ q.
-      let d′ = subst (λ z. Did fits (plan p s z v None e .acts) v (desk-of z) r done w j) q d in
-      stays-empty fits (plan p s shut v None e .acts) v no-slips r done w j (length hs) d′ (shut-calm p s v e) refl (subst (λ z. Whole (length hs) (desk-of z)) q (i .hold)) in
+    let d′ = subst (λ z. Did fits (plan p s z v None e .acts) v (desk-of z) r done w j) q d in
+    stays-empty fits (plan p s shut v None e .acts) v no-slips r done w j (length hs) d′ (shut-calm p s v e) refl (subst (λ z. Whole (length hs) (desk-of z)) q (i .hold)) in
     let at-close : shuts (plan p s x v None e .after) ≡ true → j ≡ no-slips = λ q.
-      stays-empty fits (plan p s x v None e .acts) v k r done w j (length hs) d (f .ends q .1) (f .ends q .0) (i .hold) in
+    stays-empty fits (plan p s x v None e .acts) v k r done w j (length hs) d (f .ends q .1) (f .ends q .0) (i .hold) in
     let there : desk-of y ≡ j = desk-left r (plan p s x v None e) x j a y n o at-shut at-close in
     let hold′ : Whole (length (hands (called r e a done ∷ past))) (desk-of y) = subst (λ q. Whole q (desk-of y)) (sym count) (subst (Whole (hands-after done (length hs))) (sym (there ∙ g .1)) (b .1)) in
     record {
       hold = hold′;
       since = λ acts q.
-        let q′ : cond (is-opening e && is-ok a) (Some []) (opt (since-opening past) None (λ xs. Some (xs ++ done))) ≡ Some acts =
+          let q′ : cond (is-opening e && is-ok a) (Some []) (opt (since-opening past) None (λ xs. Some (xs ++ done))) ≡ Some acts =
           sym (ap (λ z. cond z None (cond (is-opening e && is-ok a) (Some []) (opt (since-opening past) None (λ xs. Some (xs ++ done))))) o) ∙ q in
-        elim (pick (is-opening e && is-ok a) (since-opening past) done acts q′) [
-          inl u ↦
-            let z : desk-of y ≡ no-slips = there ∙ at-shut (was-shut p s x v e r j a y n (u .0)) in
-            let t : Whole (length (hands (called r e a done ∷ past))) no-slips = subst (Whole (length (hands (called r e a done ∷ past)))) z hold′ in
-            subst (λ l. (desk-of y ≡ replay l no-slips) × Flow l 0 no-slips × (hands-after l 0 ≡ length (hands (called r e a done ∷ past)))) (sym (u .1)) (z, tt, omega arith)
-        | inr u ↦
-            let h = i .since (u .0) (u .1) in
-            subst (λ l. (desk-of y ≡ replay l no-slips) × Flow l 0 no-slips × (hands-after l 0 ≡ length (hands (called r e a done ∷ past)))) (sym (u .2))
-            (there ∙ g .1 ∙ ap (replay done) (h .0) ∙ sym (replay-append (u .0) done no-slips),
-             flow-append (u .0) done 0 no-slips (h .1) (subst (λ z. Flow done z (replay (u .0) no-slips)) (sym (h .2)) (subst (Flow done (length hs)) (h .0) (g .0))),
-             after-append (u .0) done 0 ∙ ap (hands-after done) (h .2) ∙ sym count) ] }
+          elim (pick (is-opening e && is-ok a) (since-opening past) done acts q′) [
+            | inl u ↦
+                let z : desk-of y ≡ no-slips = there ∙ at-shut (was-shut p s x v e r j a y n (u .0)) in
+                let t : Whole (length (hands (called r e a done ∷ past))) no-slips = subst (Whole (length (hands (called r e a done ∷ past)))) z hold′ in
+                subst (λ l. (desk-of y ≡ replay l no-slips) × Flow l 0 no-slips × (hands-after l 0 ≡ length (hands (called r e a done ∷ past)))) (sym (u .1)) (z, tt, omega arith)
+            | inr u ↦
+                let h = i .since (u .0) (u .1) in
+                subst (λ l. (desk-of y ≡ replay l no-slips) × Flow l 0 no-slips × (hands-after l 0 ≡ length (hands (called r e a done ∷ past)))) (sym (u .2)) (
+                  there ∙ g .1 ∙ ap (replay done) (h .0) ∙ sym (replay-append (u .0) done no-slips),
+                  flow-append (u .0) done 0 no-slips (h .1) (subst (λ z. Flow done z (replay (u .0) no-slips)) (sym (h .2)) (subst (Flow done (length hs)) (h .0) (g .0))),
+                  after-append (u .0) done 0 ∙ ap (hands-after done) (h .2) ∙ sym count,
+                )
+          ];
+    }
 
 dead : (e : Event) (a : Answer) (done : List Act) (past : List Deed) → Inv shut (called off e a done ∷ past)
 dead e a done past = record { hold = refl; since = λ acts q. let z : _≡_ {A = ℕ} 0 1 = cc in absurd (omega arith) }

@@ -63,7 +63,8 @@ module _ (J : List Act → Log → Type 0) where
       let same : hist ++ done ≡ hist = ap (λ l. hist ++ l) d ∙ append-nil hist in
       record {
         ends = λ e. absurd (stops-short room a v w (subst (λ x. Stops room a v x w) e z));
-        stops = λ _. subst (λ h. J h w) (sym same) (q .0 room r w z) }
+        stops = λ _. subst (λ h. J h w) (sym same) (q .0 room r w z);
+      }
   sound (a ∷ acts) hist v Q room k r done w j q (inr (g, (rest, d, f))) =
       let i = sound acts (hist ++ (a ∷ [])) (in-log a v) Q room (at-desk a k) r rest w j (q .1 g) f in
       let same : (hist ++ (a ∷ [])) ++ rest ≡ hist ++ done = append-assoc hist (a ∷ []) rest ∙ ap (λ l. hist ++ l) (sym d) in

@@ -31,7 +31,7 @@ newly-due m now [] ds = ds
 newly-due m now (x ∷ xs) ds =
     newly-due m now xs
     (cond (isSome (x .verified) && not (is-certified m (x .height) || any (λ d. eqb (d .height) (x .height)) ds))
-      (placed sooner (record { time = now; height = x .height }) ds) ds)
+    (placed sooner (record { time = now; height = x .height }) ds) ds)
 
 -- 4 Clock, 10 EpochBack, 5 UnknownEpoch, 11 SetSize
 abbrev pub epoch-tests : Answers → Mem → ℕ → ℕ → List (ℕ × Bool)
@@ -44,13 +44,15 @@ epoch-refusal p m e now = refusal (epoch-tests p m e now)
 -- stayers keep their tips and joiners begin at 0; acks below epoch − lo go
 abbrev pub in-epoch : Answers → Settings → Mem → ℕ → ℕ → Mem
 in-epoch p s m e now = record {
-  epoch = e; tip = m .tip;
+  epoch = e;
+  tip = m .tip;
   seats = map (λ k. record { key = k; tip = seat-tip (m .seats) k }) (keys-of p e);
   pending = m .pending;
   acks = those (λ a. leb (e - s .older) (a .epoch)) (m .acks);
   certs = m .certs;
   deadlines = cond (isSome (own p e)) (newly-due m now (m .pending) (m .deadlines)) (m .deadlines);
-  wanted = m .wanted }
+  wanted = m .wanted;
+}
 
 abbrev pub plan-epoch : Answers → Settings → Mem → ℕ → ℕ → Plan
 plan-epoch p s m e now = or-refuse (epoch-refusal p m e now) (carry s (idle (in-epoch p s m e now)) ok)
@@ -89,17 +91,17 @@ is-at (Some j) i = eqb j i
 -- the checks of an ack, in order: 14 AckEpochOutsideBounds, 5 UnknownEpoch, 15 UnknownValidator, 16 PeerMismatch, 17 AckCertified, 18 AckHeight, 17, 19 AckDigest, 20 AckDuplicate, 21 InvalidAckSignature
 abbrev pub checks : Answers → Settings → Bytes → Ack → Mem → List (ℕ × Bool)
 checks p s k a m =
-      (14, outside s (m .epoch) (a .epoch))
-      ∷ (5, not (known p (a .epoch)))
-      ∷ (15, not (isSome (position k (keys-of p (a .epoch)))))
-      ∷ (16, not (is-at (position k (keys-of p (a .epoch))) (a .signer)))
-      ∷ (17, ltb (a .height) (low s (m .tip)))
-      ∷ (18, leb (m .tip + s .window) (a .height))
-      ∷ (17, is-certified m (a .height))
-      ∷ (19, differs (pending-at m (a .height)) (a .digest))
-      ∷ (20, isSome (ack-of m (a .height) (a .epoch) (a .signer)))
-      ∷ (21, not (p .verifying .accepts (a .epoch) (a .signer) (a .height) (a .digest) (a .signature)))
-      ∷ []
+    (14, outside s (m .epoch) (a .epoch))
+    ∷ (5, not (known p (a .epoch)))
+    ∷ (15, not (isSome (position k (keys-of p (a .epoch)))))
+    ∷ (16, not (is-at (position k (keys-of p (a .epoch))) (a .signer)))
+    ∷ (17, ltb (a .height) (low s (m .tip)))
+    ∷ (18, leb (m .tip + s .window) (a .height))
+    ∷ (17, is-certified m (a .height))
+    ∷ (19, differs (pending-at m (a .height)) (a .digest))
+    ∷ (20, isSome (ack-of m (a .height) (a .epoch) (a .signer)))
+    ∷ (21, not (p .verifying .accepts (a .epoch) (a .signer) (a .height) (a .digest) (a .signature)))
+    ∷ []
 
 abbrev pub checked : Answers → Settings → Bytes → Ack → Mem → ℕ
 checked p s k a m = refusal (checks p s k a m)

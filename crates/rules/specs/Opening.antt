@@ -115,12 +115,15 @@ heights-left s f = those (is-left f) (from (low s (f .top)) (f .top + s .window 
 -- what the engine knows then, over the heights hs: those with an own digest are verified and due now, the others want slips
 abbrev pub opened-over : Answers → ℕ → ℕ → Found → List ℕ → Mem
 opened-over p e now f hs = record {
-  epoch = e; tip = f .top;
+  epoch = e;
+  tip = f .top;
   seats = map (λ k. record { key = k; tip = 0 }) (keys-of p e);
   pending = map (λ h. record { height = h; verified = own-digest p e (f .acks) h }) hs;
-  acks = kept-acks p e (f .acks); certs = f .certs;
+  acks = kept-acks p e (f .acks);
+  certs = f .certs;
   deadlines = map (λ h. record { time = now; height = h }) (those (λ h. isSome (own-digest p e (f .acks) h)) hs);
-  wanted = those (λ h. not (isSome (own-digest p e (f .acks) h))) hs }
+  wanted = those (λ h. not (isSome (own-digest p e (f .acks) h))) hs;
+}
 
 abbrev pub opened : Answers → Settings → ℕ → ℕ → Found → Mem
 opened p s e now f = opened-over p e now f (heights-left s f)

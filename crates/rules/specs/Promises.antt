@@ -50,7 +50,7 @@ Backed p past c =
 abbrev pub Certificates-agree : Answers → List Deed → Type 0
 Certificates-agree p past =
     ((c d : Cert) → Happened (tell (certified c)) past → Happened (tell (certified d)) past → c .height ≡ d .height →
-      (c .digest ≡ d .digest) × (c .bytes ≡ d .bytes))
+    (c .digest ≡ d .digest) × (c .bytes ≡ d .bytes))
     × ((c : Cert) → Happened (tell (certified c)) past → Backed p past c)
 
 -- an ack that the engine sent or told

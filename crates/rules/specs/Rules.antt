@@ -44,12 +44,15 @@ recorded s h a = append (section s h) a ∷ sync (section s h) ∷ []
 -- what is below a height is dropped
 abbrev pub dropped : ℕ → ℕ → Mem → Mem
 dropped b t m = record {
-  epoch = m .epoch; tip = t; seats = m .seats;
+  epoch = m .epoch;
+  tip = t;
+  seats = m .seats;
   pending = those (λ p. leb b (p .height)) (m .pending);
   acks = those (λ a. leb b (a .height)) (m .acks);
   certs = those (λ c. leb b (c .height)) (m .certs);
   deadlines = those (λ d. leb b (d .height)) (m .deadlines);
-  wanted = those (leb b) (m .wanted) }
+  wanted = those (leb b) (m .wanted);
+}
 
 abbrev pub with-acks : List Ack → Mem → Mem
 with-acks xs m = record { epoch = m .epoch; tip = m .tip; seats = m .seats; pending = m .pending; acks = xs; certs = m .certs; deadlines = m .deadlines; wanted = m .wanted }
@@ -67,7 +70,8 @@ with-pending xs m = record { epoch = m .epoch; tip = m .tip; seats = m .seats; p
 abbrev pub move : Settings → ℕ → Mem → Work
 move s t m = record {
   mem = dropped (low s t) t m;
-  acts = drop-below (low s t) ∷ (recorded s t (tip t) ++ (tell (tip t) ∷ prune (section s (low s t)) ∷ [])) }
+  acts = drop-below (low s t) ∷ (recorded s t (tip t) ++ (tell (tip t) ∷ prune (section s (low s t)) ∷ []));
+}
 
 -- the first uncertified height from t on; n bounds the search
 abbrev pub first-free : ℕ → ℕ → Mem → ℕ
@@ -131,10 +135,15 @@ fill-by zero s m = m
 fill-by (suc n) s m =
     cond (ltb (next m - m .tip) (s .window))
     (fill-by n s (record {
-      epoch = m .epoch; tip = m .tip; seats = m .seats;
+      epoch = m .epoch;
+      tip = m .tip;
+      seats = m .seats;
       pending = m .pending ++ (record { height = next m; verified = None } ∷ []);
-      acks = m .acks; certs = m .certs; deadlines = m .deadlines;
-      wanted = m .wanted ++ (next m ∷ []) }))
+      acks = m .acks;
+      certs = m .certs;
+      deadlines = m .deadlines;
+      wanted = m .wanted ++ (next m ∷ []);
+    }))
     m
 
 abbrev pub fill : Settings → Mem → Mem
@@ -153,8 +162,8 @@ restore-from p s d e [] m = idle m
 restore-from p s d e (a ∷ rest) m =
     cond (not (eqb (a .epoch) e) && is-certified m (a .height)) (idle m)
     (cond (sameBytes (a .digest) d)
-      (then (store p s a m) (restore-from p s d (a .epoch) rest))
-      (restore-from p s d (a .epoch) rest m))
+    (then (store p s a m) (restore-from p s d (a .epoch) rest))
+    (restore-from p s d (a .epoch) rest m))
 
 abbrev pub restore : Answers → Settings → Bytes → List Ack → Mem → Work
 restore p s d [] m = idle m
