@@ -20,6 +20,7 @@ unfoldable pub kept : ℕ → List Bytes → List Section → List Section
 kept s [] rest = rest
 kept s (b ∷ bs) rest = record { number = s; durable = b ∷ bs; loose = [] } ∷ rest
 
+-- what is left of each section
 unfoldable pub AllLeft : ℕ → List Section → List Section → Type 0
 AllLeft below [] ws = ws ≡ []
 AllLeft below (x ∷ xs) ws =

@@ -119,6 +119,7 @@ pub record FirmerSection (x y : Section) : Type 0 where
   pub same : all-of y ≡ all-of x
   pub longer : length (x .durable) ≤ length (y .durable)
 
+-- the same of each section, in order
 unfoldable pub AllFirmer : List Section → List Section → Type 0
 AllFirmer [] [] = Unit {0}
 AllFirmer [] (y ∷ ys) = ⊥

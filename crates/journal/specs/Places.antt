@@ -27,6 +27,7 @@ unfoldable pub beyond : Option Place → List Placed → List Placed
 beyond None xs = xs
 beyond (Some p) xs = past-place (p .section) (p .number) xs
 
+-- the first of a list, if any
 unfoldable pub first-of : List Placed → Option Placed
 first-of [] = None
 first-of (x ∷ xs) = Some x

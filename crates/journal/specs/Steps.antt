@@ -40,9 +40,11 @@ Settled to d (Err Full) e = (d .flushes ≡ false) × Firmer (d .log) (e .log)
 Settled to d (Err Pruned) e = ⊥
 Settled to d (Err Off) e = Cut 0 (d .log) (e .log)
 
+-- sync: section s is durable
 abbrev pub Synced : Disk → ℕ → Result (Unit {0}) Stop → Disk → Type 0
 Synced d s r e = Settled (synced s) d r e
 
+-- sync of everything
 abbrev pub AllSynced : Disk → Result (Unit {0}) Stop → Disk → Type 0
 AllSynced d r e = Settled all-synced d r e
 

@@ -1,0 +1,12 @@
+pub mod Loops
+pub mod Keys
+pub mod Sorting
+pub mod Groups
+pub mod Pruned
+pub mod Added
+pub mod Listed
+pub mod Overruns
+pub mod Walk
+pub mod Rooms
+pub mod Powers
+pub mod Steps

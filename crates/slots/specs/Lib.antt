@@ -1,0 +1,4 @@
+pub mod Order
+pub mod Value
+pub mod Stores
+pub mod Vacancies
