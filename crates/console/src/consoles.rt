@@ -7,11 +7,11 @@ mod lines;
 #[derive(Drop)]
 pub struct Console {
     /// The part for signers and tips.
-    pub board: Board,
+    board: Board,
     /// The lines, empty ones and comments too.
-    pub lines: u64,
+    lines: u64,
     /// The tips that counted.
-    pub counted: u64,
+    counted: u64,
     /// The lines that were refused.
-    pub refused: u64,
+    refused: u64,
 }

@@ -19,7 +19,7 @@ use types::Participant;
 
 impl KeySet {
     /// No keys.
-    pub fn empty() -> KeySet
+    pub(crate) fn empty() -> KeySet
         ensures keys { λ r. ⌜ seatsOf r ≡ [] ⌝ }
         ensures used { λ r. ⌜ r .used ≡ 0 ⌝ }
     {
@@ -43,7 +43,7 @@ impl KeySet {
     }
 
     /// Adds the key, and says whether it was new.
-    pub fn add(&mut self, key: Participant) -> bool
+    pub(crate) fn add(&mut self, key: Participant) -> bool
         requires { ⌜ now self .used < 16 ⌝ }
         ensures new { λ r. ⌜ r ≡ not (isSome (at ahead key (seatsOf (now (self .entry))))) ⌝ }
         ensures keys { λ r. ⌜ (r ≡ true → seatsOf (now (self .exit)) ≡ put ahead key (height 0) (seatsOf (now (self .entry)))) ⌝ }
