@@ -45,7 +45,10 @@ pub fn run(rt: &LibcRuntime) -> Result<(), AnyError> {
             println!(rt, "{HELP}")?;
             return Ok(());
         }
-        return Err(format!(rt.alloc(), "unknown argument {word}, the only one is --help")?.into());
+        return Err(format!(
+            rt.alloc(),
+            "unknown argument {word}, the only one is --help"
+        )?.into());
     }
     let mut console = Console::new();
     for line in BufReader::new(rt.stdin()).split(rt.alloc(), b'\n') {
