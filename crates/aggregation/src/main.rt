@@ -1,4 +1,5 @@
 //! The console over standard input.
+#![tactic(auto)]
 
 fn main(rt: HostRuntime) -> anyhow::Result<()> {
     session::run(&rt)

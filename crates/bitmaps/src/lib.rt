@@ -1,4 +1,6 @@
 //! Signers as a map of sixteen bits, bit i for signer i, and why a certificate over such a map is rejected.
+#![tactic(auto)]
+
 ghost use Rattle.bitmaps.specs.Maps.{MapsReturn};
 
 mod joins;

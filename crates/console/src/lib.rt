@@ -1,4 +1,5 @@
 //! A line-driven front: lines of text in, and what each did out.
+#![tactic(auto)]
 
 mod consoles;
 mod replies;

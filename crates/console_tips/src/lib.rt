@@ -1,4 +1,5 @@
 //! The console's part for signers and tips: what a command does to the seats, and what is answered.
+#![tactic(auto)]
 
 mod answers;
 mod boards;

@@ -1,4 +1,5 @@
 //! The written forms of messages and records: read in place as parts of the bytes, and written into a lent buffer.
+#![tactic(auto)]
 
 mod faults;
 mod kinds;

@@ -1,4 +1,6 @@
 //! The laws of the forms, each as what a function ensures: all bytes and all values are meant, not those of a call.
+#![tactic(auto)]
+
 ghost use Rattle.forms_laws.specs.Laws.{Numbers, ReadsBack, OneSpelling, FirstFault};
 
 /// Numbers are read back as they are written, and are spelled in one way. In particular 127 is written 7f and 128 is written

@@ -1,4 +1,6 @@
 //! A journal of records in sections: what it promises, and what follows from the promise.
+#![tactic(auto)]
+
 ghost use Rattle.std.specs.Prelude.{◌≡◌, Option};
 ghost use Rattle.std.specs.Option.{option_map};
 ghost use Rattle.journal.specs.Log.{Formed, reading};

@@ -1,4 +1,6 @@
 //! The listed provider: a certificate is the map of its signers and their signatures.
+#![tactic(auto)]
+
 ghost use Rattle.listed.specs.Theorems.{AssembledIsAccepted, DeterminesSigners, DeterminesSignatures, Reasons};
 
 mod answers;

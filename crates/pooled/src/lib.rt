@@ -1,4 +1,6 @@
 //! The pooled provider: a certificate is the map of its signers and the sum of their tags.
+#![tactic(auto)]
+
 ghost use Rattle.pooled.specs.Theorems.{AssembledIsAccepted, Reasons};
 
 mod answers;

@@ -1,4 +1,6 @@
 //! Who signs, what is accepted, and how a certificate is made: the promise that every provider keeps.
+#![tactic(auto)]
+
 ghost use Rattle.std.specs.Prelude.{◌≡◌, map};
 ghost use Rattle.provider.specs.Answers.{Answers};
 ghost use Rattle.provider.specs.Laws.{Lawful, position_in};

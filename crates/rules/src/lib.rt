@@ -1,4 +1,6 @@
 //! The rules of the engine as definitions, and the law over its runs: each function here ensures a theorem.
+#![tactic(auto)]
+
 ghost use Rattle.rules.specs.Durable.{ToldDurable};
 ghost use Rattle.rules.specs.Limits.{RecordsFit};
 ghost use Rattle.rules.specs.Output.{OutputFits};

@@ -1,4 +1,6 @@
 //! A program over a console: standard input line by line, and a reply to each.
+#![tactic(auto)]
+
 use anyhow::anyhow;
 use console::{Console, Reply};
 use std::env;

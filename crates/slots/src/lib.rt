@@ -1,4 +1,6 @@
 //! A journal that keeps each record in one slot of a lent list.
+#![tactic(auto)]
+
 ghost use Rattle.std.specs.Prelude.{◌≡◌, None};
 ghost use Rattle.journal.specs.Cuts.{Cut};
 ghost use Rattle.journal.specs.Laws.{Told};

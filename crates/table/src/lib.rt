@@ -1,4 +1,6 @@
 //! An ordered table in memory that the caller lends at each call: entries in ascending order of their keys.
+#![tactic(auto)]
+
 ghost use Rattle.std.specs.Prelude.{◌≡◌, Bool};
 ghost use Rattle.table.specs.Order.{Total};
 

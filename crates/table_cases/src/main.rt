@@ -1,4 +1,6 @@
 //! Tries the ordered table at each of its types of keys, and prints what every call answers.
+#![tactic(auto)]
+
 use std::io;
 use table::{Due, Entry, Key, Placed};
 use types::{Height, Participant, PublicKey};

@@ -1,4 +1,6 @@
 //! The trial tag: what a signer signs a height and a digest with, and what is accepted as its signature.
+#![tactic(auto)]
+
 ghost use Rattle.std.specs.Prelude.{◌≡◌, drop, slice_index};
 ghost use Rattle.std.specs.Str.{bytes_eq};
 ghost use Rattle.tags.specs.Words.{word};

@@ -1,4 +1,5 @@
 //! Lines of text as bytes: their words, numbers and hex.
+#![tactic(auto)]
 
 mod decimal;
 mod hexadecimal;

@@ -1,4 +1,5 @@
 //! What the lines about signers and tips say.
+#![tactic(auto)]
 
 mod commands;
 mod faults;

@@ -1,4 +1,5 @@
 //! The recorded tips of the signers, and the safe tip among them.
+#![tactic(auto)]
 
 mod counts;
 mod faults;

@@ -1,4 +1,5 @@
 //! The epochs of a trial: their keys, their own signers, and signatures by the trial tag. Every provider of a trial rests on them.
+#![tactic(auto)]
 
 mod epoch_list;
 mod epoch_set;

@@ -1,4 +1,5 @@
 //! The numbers and byte strings that every layer names.
+#![tactic(auto)]
 
 mod bytes;
 mod epochs;

@@ -1,4 +1,6 @@
 //! Worked cases of the rules, under the listed provider.
+#![tactic(auto)]
+
 ghost use Rattle.worked.specs.Again.{ToldAgain};
 ghost use Rattle.worked.specs.Scene.{provider, settings};
 ghost use Rattle.worked.specs.Cases.{WorkedCase};
