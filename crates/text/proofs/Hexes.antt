@@ -1,11 +1,11 @@
 -- Hex digit by digit.
-use Rattle.std.proofs.Common.{◌≡◌, ℕ, ◌+◌, ◌-◌, ◌*◌, ◌/◌, ◌%◌, ◌<◌, ◌≤◌, Bool, true, false, cond, ◌&&◌, ltb, leb, List, [], ◌∷◌, ◌++◌, length, get_or, take, drop, Some, None, All, Option, sym, refl, ap, ◌∙◌, inl, inr, append_assoc, append-nil, arith}
+use Rattle.std.proofs.Common.{◌≡◌, ℕ, ◌+◌, ◌-◌, ◌/◌, ◌%◌, ◌<◌, ◌≤◌, ltb, leb, List, [], ◌∷◌, ◌++◌, length, get_or, take, drop, Some, None, All, Option, sym, refl, ap, ◌∙◌, inl, inr, append_assoc, append-nil, arith}
 use Rattle.std.proofs.lemmas.List.{take_rest, take_more}
-use Rattle.std.proofs.lemmas.Bool.{cases_Bool, cond-true, cond-false, and_right, and_left, and_from, le-leb, lt-leb, ltb-true, ltb-false, cond_both}
+use Rattle.std.proofs.lemmas.List.Elements.{All-head, All-tail}
+use Rattle.std.proofs.lemmas.Bool.{cases_Bool, cond-true, cond-false, and_right, and_from, le-leb, lt-leb, ltb-true, ltb-false, cond_both}
 use Rattle.std.proofs.lemmas.Str.{encode_ascii}
 use lib.Utf8.{encode}
-use Rattle.std.specs.Str.{bytes_eq}
-use Rattle.text.specs.Hex.{nibble, joined, octet, before, octets, bytes_of, digit, spelled, hex_of, HexReadsBack}
+use Rattle.text.specs.Hex.{nibble, joined, octet, before, octets, digit, spelled, hex_of, HexReadsBack}
 
 -- bytes that were read, before those to come
 abbrev pub after : List ℕ → Option (List ℕ) → Option (List ℕ)
@@ -52,7 +52,7 @@ octet_digits b l =
 octets-spelled : (bs : List ℕ) → All (λ b. b < 256) bs → octets (spelled bs) ≡ Some bs
 unfolding octets spelled
 octets-spelled [] a = refl
-octets-spelled (b ∷ bs) a = (λ i. before (octet_digits b a.0 i) (octets-spelled bs a.1 i))
+octets-spelled (b ∷ bs) a = (λ i. before (octet_digits b (All-head (λ n. n < 256) b bs a) i) (octets-spelled bs (All-tail (λ n. n < 256) b bs a) i))
 
 pub reads_back : HexReadsBack
 unfolding spelled

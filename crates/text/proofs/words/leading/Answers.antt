@@ -1,4 +1,4 @@
-use Rattle.std.proofs.Common.{sym, ◌∙◌, arith, rules}
+use Rattle.std.proofs.Common.{sym, ◌∙◌, arith}
 use Rattle.text.proofs.Splitting.{leading_stop, leading-go, leading_none}
 use Rattle.text.proofs.words.leading.Goals as goal
 

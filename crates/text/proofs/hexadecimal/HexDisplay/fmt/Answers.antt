@@ -13,8 +13,8 @@ loop-byte-init g c plain =
 pub loop-byte-preserved : goal.loop-byte-preserved
 loop-byte-preserved g c plain =
     let p = c.loop-byte.invariant plain in
-    let q = c.in-ok-write-char.ensures.writes p.plain refl in
-    let r = c.in-ok-write-char-2.ensures.writes q.plain refl in
+    let q = c.in_ok-write_char.ensures.writes p.plain refl in
+    let r = c.in_ok-write_char-2.ensures.writes q.plain refl in
     has_written_of_eq g.W.Write.write_str_gives _ _ _ _
     (spelled-more c.args.self.now.0.now c.loop-byte.byte-index _ _ c.loop-byte-test.true (omega arith) c.digit.ensures c.digit-in-loop-byte.ensures)
     (has_written_append g.W.Write.write_str_gives _ _ _ _ _ (has_written_append g.W.Write.write_str_gives _ _ _ _ _ p q) r)
@@ -22,5 +22,5 @@ loop-byte-preserved g c plain =
 pub returns-clause-writes : goal.returns-clause-writes
 returns-clause-writes g c plain e =
     has_written_of_eq g.W.Write.write_str_gives _ _ _ _
-    (ap spelled (take_all c.loop-byte.byte-index c.args.self.now.0.now c.loop-byte-test.false) ∙ hex_of-some c.args.self.now.0.now (eqb-false _ 0 (sym c.if-is-empty.ensures)))
+    (ap spelled (take_all c.loop-byte.byte-index c.args.self.now.0.now c.loop-byte-test.false) ∙ hex_of-some c.args.self.now.0.now (eqb-false _ 0 (sym c.if-is_empty.ensures)))
     (c.loop-byte.invariant plain)
