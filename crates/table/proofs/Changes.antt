@@ -2,7 +2,7 @@
 use Rattle.std.proofs.Common.{◌≡◌, ℕ, zero, suc, ◌+◌, ◌-◌, ◌<◌, ◌≤◌, min, Bool, true, false, ◌⊎◌, List, [], ◌∷◌, ◌++◌, length, get_or, take, drop, set, is_some, Some, None, sym, refl, ap, ◌∙◌, subst, inl, inr, arith}
 use borrow.Rule.Slice.PartMut.{put_mid}
 use Rattle.std.specs.List.{between, remove}
-use Rattle.std.proofs.lemmas.List.{length-take-le, take-set-le, drop-set-lt, get_or-take, take_all, get_or_default, drop-drop, length-drop}
+use Rattle.std.proofs.lemmas.List.{length-take-le, drop-set-lt, get_or-take, take_all, get_or_default, drop-drop, length-drop}
 use Rattle.std.proofs.lemmas.Bool.{cases_order}
 use Rattle.table.specs.declared.Entry.{Entry}
 use Rattle.table.specs.declared.Placed.{Placed}
@@ -10,7 +10,7 @@ use Rattle.table.specs.declared.Placed.TheVariants.{Added, Replaced, Full}
 use Rattle.table.specs.Order.{Total}
 use Rattle.table.specs.Rows.{entry, rank, place, at, put, without}
 use Rattle.table.specs.Updates.{Inserted, Removed}
-use Rattle.table.proofs.Facts.{Hit, Miss, rank-le, hit_at, miss_at, miss_past, found, found_hit, at_none}
+use Rattle.table.proofs.Facts.{Miss, rank-le, hit_at, miss_at, miss_past, found, found_hit, at_none}
 use Rattle.table.proofs.Shifts.{shifted_in, drawn_out}
 
 some : {X : Type 0} (xs : List X) → 0 < length xs → X

@@ -1,5 +1,6 @@
 -- The two ends of a table: which entries they are, and that their keys are the least and the greatest. Assumes nothing.
-use Rattle.std.proofs.Common.{◌≡◌, ℕ, zero, suc, ◌-◌, ◌<◌, ◌≤◌, Bool, true, false, List, [], ◌∷◌, length, get_or, Some, None, All, Option, sym, refl, ap, ◌∙◌, subst, arith}
+use Rattle.std.proofs.Common.{◌≡◌, ℕ, suc, ◌-◌, ◌<◌, Bool, true, false, List, [], ◌∷◌, length, get_or, Some, None, All, sym, refl, ap, ◌∙◌, subst, arith}
+use Rattle.std.proofs.lemmas.List.Elements.{All-nil, All-cons}
 use Rattle.table.specs.declared.Entry.{Entry}
 use Rattle.table.specs.Order.{Total}
 use Rattle.table.specs.Rows.{Above, Sorted}
@@ -34,14 +35,14 @@ module _ {K V : Type 0} where
 
 module _ {K V : Type 0} {less : K → K → Bool} (o : Total less) where
   not_below : (k : K) (es : List (Entry K V)) → Above less k es → All (λ (e : Entry K V). less e.key k ≡ false) es
-  not_below k [] hs = tt
-  not_below k (x ∷ xs) hs = (one_way o k x.key hs.0, not_below k xs hs.1)
+  not_below k [] hs = All-nil (λ (e : Entry K V). less e.key k ≡ false)
+  not_below k (x ∷ xs) hs = All-cons (λ (e : Entry K V). less e.key k ≡ false) x xs (one_way o k x.key hs.0) (not_below k xs hs.1)
 
   pub front-least : (es : List (Entry K V)) (f : Entry K V) → foremost es ≡ Some f → Sorted less es → Least less (Some f) es
-  front-least [] f is s = tt
+  front-least [] f is s = All-nil (λ (e : Entry K V). less e.key f.key ≡ false)
   front-least (x ∷ xs) f is s =
       let e : x ≡ f = cc in
-      subst (λ (y : Entry K V). Least less (Some y) (x ∷ xs)) e (o.never x.key, not_below x.key xs s.0)
+      subst (λ (y : Entry K V). Least less (Some y) (x ∷ xs)) e (All-cons (λ (e : Entry K V). less e.key x.key ≡ false) x xs (o.never x.key) (not_below x.key xs s.0))
 
   above-last : (k : K) (es : List (Entry K V)) (l : Entry K V) → Above less k es → hindmost es ≡ Some l → less k l.key ≡ true
   above-last k [] l hs is = absurd (let z : ◌≡◌ {A = ℕ} 0 1 = cc in omega arith)
@@ -49,7 +50,7 @@ module _ {K V : Type 0} {less : K → K → Bool} (o : Total less) where
   above-last k (x ∷ y ∷ ys) l hs is = above-last k (y ∷ ys) l hs.1 is
 
   pub last-greatest : (es : List (Entry K V)) (l : Entry K V) → hindmost es ≡ Some l → Sorted less es → Greatest less (Some l) es
-  last-greatest [] l is s = tt
-  last-greatest (x ∷ []) l is s = let e : x ≡ l = cc in (ap (λ (y : Entry K V). less y.key x.key) (sym e) ∙ o.never x.key, tt)
+  last-greatest [] l is s = All-nil (λ (e : Entry K V). less l.key e.key ≡ false)
+  last-greatest (x ∷ []) l is s = let e : x ≡ l = cc in All-cons (λ (e : Entry K V). less l.key e.key ≡ false) x [] (ap (λ (y : Entry K V). less y.key x.key) (sym e) ∙ o.never x.key) (All-nil (λ (e : Entry K V). less l.key e.key ≡ false))
   last-greatest (x ∷ y ∷ ys) l is s =
-      (one_way o x.key l.key (above-last x.key (y ∷ ys) l s.0 is), last-greatest (y ∷ ys) l is s.1)
+      All-cons (λ (e : Entry K V). less l.key e.key ≡ false) x (y ∷ ys) (one_way o x.key l.key (above-last x.key (y ∷ ys) l s.0 is)) (last-greatest (y ∷ ys) l is s.1)

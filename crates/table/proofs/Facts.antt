@@ -1,9 +1,8 @@
 -- What `rank` tells of the other functions of a table. Assumes nothing.
-use Rattle.std.proofs.Common.{◌≡◌, ℕ, suc, ◌+◌, ◌-◌, ◌<◌, ◌≤◌, Bool, true, false, cond, List, [], ◌∷◌, ◌++◌, length, get_or, take, drop, set, Some, None, Option, sym, refl, ap, ◌∙◌, arith}
+use Rattle.std.proofs.Common.{◌≡◌, ℕ, suc, ◌+◌, ◌<◌, ◌≤◌, Bool, true, false, cond, List, [], ◌∷◌, length, get_or, drop, set, Some, None, Option, sym, refl, ap, ◌∙◌, arith}
 use Rattle.std.specs.List.{insert, remove}
 use Rattle.std.proofs.lemmas.List.{at_drop_more, get_or_default}
 use Rattle.table.specs.declared.Entry.{Entry}
-use Rattle.table.specs.Order.{Total}
 use Rattle.table.specs.Rows.{entry, onward, rank, place, at, put, without}
 
 module _ {K V : Type 0} (less : K → K → Bool) (k : K) where

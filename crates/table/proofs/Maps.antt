@@ -1,9 +1,9 @@
 -- A table is a finite map: what it answers after `put` and `without`, at every key. Assumes nothing.
-use Rattle.std.proofs.Common.{◌≡◌, ℕ, ◌+◌, Bool, true, false, cond, List, [], ◌∷◌, take, Some, None, Option, sym, refl, ap, ◌∙◌, subst}
+use Rattle.std.proofs.Common.{◌≡◌, ℕ, Bool, true, false, cond, List, [], ◌∷◌, take, Some, None, Option, sym, refl, ap, ◌∙◌, subst}
 use Rattle.table.specs.declared.Entry.{Entry}
 use Rattle.table.specs.declared.Placed.{Placed}
 use Rattle.table.specs.declared.Placed.TheVariants.{Added, Replaced, Full}
-use Rattle.table.specs.Order.{Total, level}
+use Rattle.table.specs.Order.{Total}
 use Rattle.table.specs.Rows.{entry, Above, Sorted, at, put, without}
 use Rattle.table.specs.Updates.{grown, shrunk, Inserted, Removed, Answers, MapInserted, MapRemoved}
 use Rattle.table.proofs.Edges.{one_way}

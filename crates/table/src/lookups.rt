@@ -7,7 +7,7 @@ use crate::{Entry, Key};
 
 /// How many keys are below `key`.
 pub(crate) fn rank_of<K: Key, V: Copy>(rows: &[Entry<K, V>], key: &K) -> usize
-    ensures counted { result ≡ rank less key.now rows.now }
+    ensures counted { result ≡ rank K.less key.now rows.now }
     ensures within { result ≤ length rows.now }
 {
     for (i, e) in rows.iter().enumerate() {
@@ -20,7 +20,7 @@ pub(crate) fn rank_of<K: Key, V: Copy>(rows: &[Entry<K, V>], key: &K) -> usize
 
 /// The place of `key`, if it is there.
 pub fn position<K: Key, V: Copy>(rows: &[Entry<K, V>], key: &K) -> Option<usize>
-    ensures placed { result ≡ place less key.now rows.now }
+    ensures placed { result ≡ place K.less key.now rows.now }
     ensures within { elim result [ Some i ↦ i < length rows.now | None ↦ Unit {0} ] }
 {
     let i = rank_of(rows, key);
@@ -33,7 +33,7 @@ pub fn position<K: Key, V: Copy>(rows: &[Entry<K, V>], key: &K) -> Option<usize>
 
 /// The value at `key`, if it is there.
 pub fn lookup<K: Key, V: Copy>(rows: &[Entry<K, V>], key: &K) -> Option<V>
-    ensures { result ≡ at less key.now rows.now }
+    ensures { result ≡ at K.less key.now rows.now }
 {
     match position(rows, key) {
         Some(i) => Some(rows[i].value),
@@ -44,7 +44,7 @@ pub fn lookup<K: Key, V: Copy>(rows: &[Entry<K, V>], key: &K) -> Option<V>
 /// The entry with the least key, if there is an entry.
 pub fn first<K: Key, V: Copy>(rows: &[Entry<K, V>]) -> Option<Entry<K, V>>
     ensures entry { result ≡ foremost rows.now }
-    ensures least { Sorted less rows.now → Least less result rows.now }
+    ensures least { Sorted K.less rows.now → Least K.less result rows.now }
 {
     if rows.len() == 0 {
         return None;
@@ -55,7 +55,7 @@ pub fn first<K: Key, V: Copy>(rows: &[Entry<K, V>]) -> Option<Entry<K, V>>
 /// The entry with the greatest key, if there is an entry.
 pub fn last<K: Key, V: Copy>(rows: &[Entry<K, V>]) -> Option<Entry<K, V>>
     ensures entry { result ≡ hindmost rows.now }
-    ensures greatest { Sorted less rows.now → Greatest less result rows.now }
+    ensures greatest { Sorted K.less rows.now → Greatest K.less result rows.now }
 {
     if rows.len() == 0 {
         return None;

@@ -8,9 +8,9 @@ use crate::{Entry, Key, Placed};
 
 /// Puts `value` at `key`: in place of the value there, or as an entry more where a place is free.
 pub fn insert<K: Key, V: Copy>(entries: &mut [Entry<K, V>], used: usize, key: K, value: V) -> Placed
-    ensures entries { Inserted less key value used entries.old entries.new result }
-    ensures sorted { Sorted less (take used entries.old) → Sorted less (take (grown used result) entries.new) }
-    ensures map { Sorted less (take used entries.old) → MapInserted less key value (take used entries.old) (take (grown used result) entries.new) result }
+    ensures entries { Inserted K.less key value used entries.old entries.new result }
+    ensures sorted { Sorted K.less (take used entries.old) → Sorted K.less (take (grown used result) entries.new) }
+    ensures map { Sorted K.less (take used entries.old) → MapInserted K.less key value (take used entries.old) (take (grown used result) entries.new) result }
 {
     let n = used.min(entries.len());
     let rows: &[Entry<K, V>] = entries;
@@ -29,9 +29,9 @@ pub fn insert<K: Key, V: Copy>(entries: &mut [Entry<K, V>], used: usize, key: K,
 
 /// Takes the entry at `key` out, and says whether there was one.
 pub fn remove<K: Key, V: Copy>(entries: &mut [Entry<K, V>], used: usize, key: &K) -> bool
-    ensures entries { Removed less key.now used entries.old entries.new result }
-    ensures sorted { Sorted less (take used entries.old) → Sorted less (take (shrunk used entries.old result) entries.new) }
-    ensures map { Sorted less (take used entries.old) → MapRemoved less key.now (take used entries.old) (take (shrunk used entries.old result) entries.new) }
+    ensures entries { Removed K.less key.now used entries.old entries.new result }
+    ensures sorted { Sorted K.less (take used entries.old) → Sorted K.less (take (shrunk used entries.old result) entries.new) }
+    ensures map { Sorted K.less (take used entries.old) → MapRemoved K.less key.now (take used entries.old) (take (shrunk used entries.old result) entries.new) }
 {
     let n = used.min(entries.len());
     let rows: &[Entry<K, V>] = entries;

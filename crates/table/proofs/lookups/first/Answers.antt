@@ -2,7 +2,5 @@ use Rattle.std.proofs.Common.{rules}
 use Rattle.table.proofs.Edges.{front_is, front-least}
 use Rattle.table.proofs.lookups.first.Goals as goal
 
-pub returns : goal.returns
-returns g c =
-    let o = g.met.K.Key.order in
-    record { entry = search (rules, front_is); least = search (rules, front_is, front-least) }
+pub returns-clause-least : goal.returns-clause-least
+returns-clause-least g c = λ s. front-least g.met.K.Key.order c.args.rows.now c.index-rows-0.result (search (rules, front_is)) s

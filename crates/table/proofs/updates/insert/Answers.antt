@@ -1,4 +1,4 @@
-use Rattle.std.proofs.Common.{◌≡◌, ◌+◌, ◌-◌, ◌≤◌, length, get_or, take, set, sym, arith}
+use Rattle.std.proofs.Common.{◌+◌, ◌-◌, ◌≤◌, length, get_or, take, set, sym, arith}
 use borrow.Rule.Slice.PartMut.{put_mid}
 use Rattle.table.specs.declared.Placed.TheVariants.{Added, Replaced, Full}
 use Rattle.table.specs.Rows.{entry}
@@ -13,13 +13,13 @@ returns-then-not-before g c =
     let o = g.met.K.Key.order in
     let es = c.args.entries.now in
     let n = c.min-n.result in
-    let i = c.rank-of-i.result in
+    let i = c.rank_of-i.result in
     let fits : n ≤ length es = omega arith in
     let d = c.index-entries-i-then-not-before.result in
     let new = set es i (entry (get_or es i d).key c.args.value) in
     let left = inserted_clamped g.K.Key.less c.args.key c.args.used n es new c.min-n.ensures c.args.value Replaced
     (replaced o c.args.key es n fits c.args.value i d c.index-entries-i.result
-    (ranked o c.args.key es n fits i c.rank-of-i.ensures.counted) (omega arith) (sym c.if-not-before.ensures)) in
+    (ranked o c.args.key es n fits i c.rank_of-i.ensures.counted) (omega arith) (sym c.if-not-before.ensures)) in
     record {
       entries = left;
       sorted = inserted_sorted o c.args.key c.args.value c.args.used es new Replaced left;
@@ -33,8 +33,8 @@ returns-then-n-entries g c =
     let n = c.min-n.result in
     let fits : n ≤ length es = omega arith in
     let m : Miss g.K.Key.less c.args.key (take n es) = elim c.else-i-n.branch [
-      | else-i-n-via-then-i-n+else-not-before w ↦ missed_at o c.args.key es n fits c.rank-of-i.result w.index-entries-i.result c.rank-of-i.ensures.counted w.if-i-n.true (sym w.if-not-before.ensures)
-      | else-i-n-via-else-i-n w ↦ missed_past o c.args.key es n fits c.rank-of-i.result c.rank-of-i.ensures.counted w.if-i-n.false
+      | else-i-n-via-then-i-n+else-not-before w ↦ missed_at o c.args.key es n fits c.rank_of-i.result w.index-entries-i.result c.rank_of-i.ensures.counted w.if-i-n.true (sym w.if-not-before.ensures)
+      | else-i-n-via-else-i-n w ↦ missed_past o c.args.key es n fits c.rank_of-i.result c.rank_of-i.ensures.counted w.if-i-n.false
     ] in
     let left = inserted_clamped g.K.Key.less c.args.key c.args.used n es es c.min-n.ensures c.args.value Full (full o c.args.key es n fits c.args.value c.if-n-entries.true m) in
     record {
@@ -48,16 +48,16 @@ returns g c =
     let o = g.met.K.Key.order in
     let es = c.args.entries.now in
     let n = c.min-n.result in
-    let i = c.rank-of-i.result in
+    let i = c.rank_of-i.result in
     let fits : n ≤ length es = omega arith in
     let m : Miss g.K.Key.less c.args.key (take n es) = elim c.else-i-n.branch [
-      | else-i-n-via-then-i-n+else-not-before w ↦ missed_at o c.args.key es n fits i w.index-entries-i.result c.rank-of-i.ensures.counted w.if-i-n.true (sym w.if-not-before.ensures)
-      | else-i-n-via-else-i-n w ↦ missed_past o c.args.key es n fits i c.rank-of-i.ensures.counted w.if-i-n.false
+      | else-i-n-via-then-i-n+else-not-before w ↦ missed_at o c.args.key es n fits i w.index-entries-i.result c.rank_of-i.ensures.counted w.if-i-n.true (sym w.if-not-before.ensures)
+      | else-i-n-via-else-i-n w ↦ missed_past o c.args.key es n fits i c.rank_of-i.ensures.counted w.if-i-n.false
     ] in
-    let new = put_mid i (n + 1 - i) (set es n (entry c.args.key c.args.value)) c.rotate-right.new.self in
+    let new = put_mid i (n + 1 - i) (set es n (entry c.args.key c.args.value)) c.rotate_right.new.self in
     let left = inserted_clamped g.K.Key.less c.args.key c.args.used n es new c.min-n.ensures c.args.value Added
-    (added o c.args.key es n fits c.args.value i c.rotate-right.new.self
-    (ranked o c.args.key es n fits i c.rank-of-i.ensures.counted) (omega arith) m c.rotate-right.ensures.after) in
+    (added o c.args.key es n fits c.args.value i c.rotate_right.new.self
+    (ranked o c.args.key es n fits i c.rank_of-i.ensures.counted) (omega arith) m c.rotate_right.ensures.after) in
     record {
       entries = left;
       sorted = inserted_sorted o c.args.key c.args.value c.args.used es new Added left;

@@ -12,9 +12,9 @@ returns-in-Some g c =
     let n = c.min-n.result in
     let i = c.in-Some.i in
     let fits : n ≤ length es = omega arith in
-    let new = put_mid i (n - i) es c.rotate-left.new.self in
+    let new = put_mid i (n - i) es c.rotate_left.new.self in
     let left = removed_clamped g.K.Key.less k c.args.used n es new c.min-n.ensures true
-    (drawn o k es n fits i c.rotate-left.new.self (sym c.in-Some.ensures.placed) c.rotate-left.ensures.after) in
+    (drawn o k es n fits i c.rotate_left.new.self (sym c.in-Some.ensures.placed) c.rotate_left.ensures.after) in
     record { entries = left; sorted = removed_sorted o k c.args.used es new true left; map = removed_map o k c.args.used es new true left }
 
 pub returns-in-None : goal.returns-in-None
