@@ -1,8 +1,8 @@
 -- A firmer log: an order that the operations keep, and that a cut cannot tell from above. Assumes nothing.
-use Rattle.std.proofs.Common.{◌≡◌, ℕ, suc, ◌+◌, ◌-◌, ◌<◌, ◌≤◌, min, max, Bool, true, false, cond, eqb, ltb, ◌⊎◌, List, [], ◌∷◌, ◌++◌, map, length, take, drop, sym, refl, ap, ◌∙◌, subst, inl, inr, append_assoc, append-nil, arith, length-append, take-append-drop, length-take}
+use Rattle.std.proofs.Common.{◌≡◌, ℕ, ◌+◌, ◌-◌, max, Bool, true, false, cond, eqb, ltb, List, [], ◌∷◌, ◌++◌, map, length, take, drop, sym, refl, ap, ◌∙◌, subst, inl, inr, append_assoc, arith, length-append, take-append-drop, length-take}
 use lib.Seq.{take-append-add}
 use Rattle.std.proofs.lemmas.Bool.{true≢false, false≢true}
-use Rattle.journal.specs.Log.{Bytes, Section, Log, all_of, firm, firm_to, added, from, appended, synced, all_synced, synced_to, pruned, numbered, reading, FirmerSection, AllFirmer, Firmer}
+use Rattle.journal.specs.Log.{Bytes, Section, Log, all_of, firm, firm_to, added, from, appended, synced, all_synced, synced_to, pruned, reading, FirmerSection, AllFirmer, Firmer}
 use Rattle.journal.specs.Cuts.{SomeOf, Left, kept, AllLeft, Cut}
 
 -- two choices by one test

@@ -1,8 +1,8 @@
 -- What a cut leaves: still in order, and some of what was there. Assumes nothing.
-use Rattle.std.proofs.Common.{◌≡◌, ℕ, zero, suc, ◌+◌, ◌<◌, ◌≤◌, ◌⊎◌, List, [], ◌∷◌, ◌++◌, length, take, sym, refl, ap, ◌∙◌, subst, inl, inr, arith}
+use Rattle.std.proofs.Common.{ℕ, zero, suc, ◌+◌, ◌≤◌, List, [], ◌∷◌, ◌++◌, length, take, sym, refl, ◌∙◌, subst, inl, inr, arith}
 use lib.Seq.{take-append-add}
-use Rattle.journal.specs.Log.{Bytes, Section, Log, all_of, Ascends}
-use Rattle.journal.specs.Cuts.{SomeOf, Left, kept, AllLeft, Cut}
+use Rattle.journal.specs.Log.{Bytes, Section, all_of, Ascends}
+use Rattle.journal.specs.Cuts.{SomeOf, Left, kept, AllLeft}
 
 pub ascends-lower : (m n : ℕ) (xs : List Section) → m ≤ n → Ascends n xs → Ascends m xs
 unfolding Ascends

@@ -1,9 +1,9 @@
 -- Logs with nothing loose, as a medium has them whose stores are durable at once. Assumes nothing.
-use Rattle.std.proofs.Common.{◌≡◌, ℕ, suc, ◌+◌, ◌-◌, ◌<◌, ◌≤◌, max, Bool, true, false, cond, eqb, ltb, ◌⊎◌, List, [], ◌∷◌, ◌++◌, map, length, take, drop, sym, refl, ap, ◌∙◌, subst, inl, inr, append_assoc, append-nil, arith, length-append, take-append-drop, length-take}
+use Rattle.std.proofs.Common.{◌≡◌, ℕ, ◌-◌, ◌<◌, cond, eqb, ltb, List, [], ◌∷◌, ◌++◌, map, length, take, drop, sym, refl, ap, ◌∙◌, inl, append_assoc, append-nil, arith, length-append, take-append-drop, length-take}
 use Rattle.std.proofs.lemmas.Bool.{cond_both}
 use Rattle.journal.specs.Log.{Bytes, Section, Log, all_of, firm, firm_to, added, appended, synced, all_synced, synced_to, All, Sound, Formed, FirmerSection, AllFirmer, Firmer}
 use Rattle.journal.specs.Cuts.{Left, kept, AllLeft, Cut}
-use Rattle.journal.proofs.Firm.{section_refl, firmer_refl, firmer_trans, firmer_synced, firmer_all-synced, firmer_synced_to}
+use Rattle.journal.proofs.Firm.{section_refl}
 
 -- nothing is loose
 abbrev pub Solid : List Section → Type 0

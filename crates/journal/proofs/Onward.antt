@@ -1,11 +1,10 @@
 -- Going through the records from place to place answers each of them once, in order. Assumes nothing.
-use Rattle.std.proofs.Common.{◌≡◌, ℕ, suc, ◌<◌, ◌≤◌, Bool, true, false, cond, eqb, ltb, ◌⊎◌, List, [], ◌∷◌, ◌++◌, length, Some, None, Option, sym, refl, ap, ◌∙◌, subst, inl, inr, arith}
+use Rattle.std.proofs.Common.{◌≡◌, ℕ, suc, ◌<◌, ◌≤◌, true, false, cond, List, [], ◌∷◌, ◌++◌, length, Some, None, Option, sym, refl, ap, ◌∙◌, subst, inl, inr, arith}
 use Rattle.std.proofs.lemmas.Bool.{cond-true, cond-false, cases_Bool}
 use Rattle.std.proofs.lemmas.Bool.Decides.{nat_tests}
 use Rattle.journal.specs.Log.{Bytes, Section, Log, Placed, all_of, numbered, reading, All, Ascends, Formed}
-use Rattle.journal.specs.Places.{placed, past, past_place, beyond, first_of}
+use Rattle.journal.specs.Places.{past, past_place, beyond, first_of}
 use Rattle.journal.specs.declared.places.Place.{Place}
-use Rattle.journal.specs.declared.places.Record.{Record}
 
 -- the place of a record
 abbrev pub place : Placed → Place

@@ -1,11 +1,11 @@
 -- Durable records stay. Assumes nothing.
-use Rattle.std.proofs.Common.{◌≡◌, ℕ, zero, suc, ◌+◌, ◌-◌, ◌<◌, ◌≤◌, Bool, true, false, cond, eqb, ltb, ◌⊎◌, List, [], ◌∷◌, ◌++◌, map, length, take, drop, Ok, Err, Option, Result, sym, refl, ap, ◌∙◌, subst, inl, inr, append_assoc, append-nil, arith, length-append, take-append-drop, length-take}
+use Rattle.std.proofs.Common.{◌≡◌, ℕ, suc, ◌+◌, ◌-◌, ◌<◌, ◌≤◌, cond, eqb, ltb, List, [], ◌∷◌, ◌++◌, map, length, take, drop, Ok, Err, Option, Result, sym, refl, ap, ◌∙◌, subst, inl, inr, append_assoc, append-nil, arith, length-append, take-append-drop}
 use lib.Seq.{take-append-add, take-append_seam}
 use Rattle.std.proofs.lemmas.Bool.{cond-true, cond-false, cond_both, cases_Bool, eq-eqb, ne_eqb, eqb-true, eqb-false, ltb-true, ltb-false}
-use Rattle.journal.specs.Log.{Bytes, Section, Log, all_of, firm, firm_to, added, from, appended, synced, all_synced, synced_to, pruned, Ascends, Formed, FirmerSection, AllFirmer, Firmer}
-use Rattle.journal.specs.Cuts.{SomeOf, Left, kept, AllLeft, Cut}
+use Rattle.journal.specs.Log.{Bytes, Section, Log, all_of, firm, firm_to, added, from, appended, synced, all_synced, synced_to, pruned, Ascends, FirmerSection, AllFirmer, Firmer}
+use Rattle.journal.specs.Cuts.{Left, kept, AllLeft, Cut}
 use Rattle.journal.specs.Steps.{Disk, Appended, Settled, Pruning, Reading}
-use Rattle.journal.specs.Laws.{Op, append, sync, sync_all, prune, read, cut, Leaves, Ran, durable_in, Spared, Begins}
+use Rattle.journal.specs.Laws.{Op, append, sync, sync_all, prune, read, cut, Ran, durable_in, Spared, Begins}
 use Rattle.journal.specs.declared.places.Overrun.{Overrun}
 use Rattle.journal.specs.declared.stops.Stop.{Stop}
 use Rattle.journal.specs.declared.stops.Stop.TheVariants.{Full, Pruned, Off}

@@ -1,5 +1,5 @@
 -- A second reading answers what the first did. Assumes nothing.
-use Rattle.std.proofs.Common.{◌≡◌, ℕ, Bool, true, false, List, Some, None, Ok, Err, Option, Result, sym, refl, ap, ◌∙◌, arith}
+use Rattle.std.proofs.Common.{◌≡◌, ℕ, Some, None, Ok, Err, Option, Result, sym, refl, ap, ◌∙◌, arith}
 use Rattle.std.proofs.lemmas.Bool.{true≢false}
 use Rattle.journal.specs.Log.{Log, all_synced, synced_to, reading, Firmer}
 use Rattle.journal.specs.Steps.{Disk, Reading}

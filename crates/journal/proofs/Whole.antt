@@ -1,10 +1,10 @@
 -- Reading answers whole records only. Assumes nothing.
-use Rattle.std.proofs.Common.{◌≡◌, ℕ, zero, suc, ◌+◌, ◌<◌, ◌≤◌, Bool, true, false, cond, eqb, ltb, ◌⊎◌, List, [], ◌∷◌, ◌++◌, map, length, take, Ok, Err, Option, Result, sym, refl, ap, ◌∙◌, subst, inl, inr, ⊎_elim, append_assoc, append-nil, arith}
-use Rattle.std.proofs.lemmas.Bool.{cond_both, eqb-true, eqb-false}
-use Rattle.journal.specs.Log.{Bytes, Section, Log, all_of, added, from, appended, synced, all_synced, synced_to, pruned, Placed, numbered, reading, FirmerSection, AllFirmer, Firmer}
-use Rattle.journal.specs.Cuts.{SomeOf, Left, kept, AllLeft, Cut}
+use Rattle.std.proofs.Common.{◌≡◌, ℕ, suc, eqb, ltb, ◌⊎◌, List, [], ◌∷◌, ◌++◌, Ok, Err, Option, Result, sym, ap, ◌∙◌, subst, inl, inr, ⊎_elim, append_assoc, append-nil}
+use Rattle.std.proofs.lemmas.Bool.{cond_both, eqb-true}
+use Rattle.journal.specs.Log.{Bytes, Section, Log, all_of, added, from, appended, synced, all_synced, synced_to, pruned, Placed, numbered, reading, AllFirmer, Firmer}
+use Rattle.journal.specs.Cuts.{SomeOf, kept, AllLeft}
 use Rattle.journal.specs.Steps.{Disk, Appended, Settled, Pruning, Reading}
-use Rattle.journal.specs.Laws.{Op, append, sync, sync_all, prune, read, cut, Leaves, Ran, Among, Answers, Appends}
+use Rattle.journal.specs.Laws.{Op, append, sync, sync_all, prune, read, cut, Ran, Among, Answers, Appends}
 use Rattle.journal.specs.declared.places.Overrun.{Overrun}
 use Rattle.journal.specs.declared.stops.Stop.{Stop}
 use Rattle.journal.specs.declared.stops.Stop.TheVariants.{Full, Pruned, Off}

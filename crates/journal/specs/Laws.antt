@@ -1,6 +1,6 @@
 -- Laws over any list of operations, with a power cut at any of them. Assumes nothing.
-use Rattle.std.specs.Prelude.{◌≡◌, ℕ, ◌≤◌, Bool, true, false, cond, ◌⊎◌, List, [], ◌∷◌, ◌++◌, Ok, Err, Option, Result, ◌==◌, ◌≢◌}
-use Rattle.journal.specs.Log.{Bytes, Section, Log, Placed, reading, Formed}
+use Rattle.std.specs.Prelude.{◌≡◌, ℕ, ◌≤◌, cond, ◌⊎◌, List, [], ◌∷◌, ◌++◌, Ok, Err, Option, Result, ◌==◌, ◌≢◌}
+use Rattle.journal.specs.Log.{Bytes, Section, reading, Formed}
 use Rattle.journal.specs.Cuts.{Cut}
 use Rattle.journal.specs.Steps.{Disk, Appended, Synced, AllSynced, Pruning, Reading}
 use Rattle.journal.specs.declared.places.Overrun.{Overrun}
