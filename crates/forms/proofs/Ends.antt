@@ -1,10 +1,9 @@
 -- What a record or a message says, by what stands first in it.
-use Rattle.std.proofs.Common.{◌≡◌, ℕ, suc, ◌+◌, ◌<◌, Bool, true, false, cond, eqb, List, [], ◌∷◌, length, get_or, drop, Ok, Err, Result, sym, refl, ap, ◌∙◌, arith}
+use Rattle.std.proofs.Common.{◌≡◌, ℕ, ◌<◌, Bool, true, false, cond, eqb, List, [], ◌∷◌, length, get_or, drop, Ok, Err, Result, refl, arith}
 use Rattle.std.proofs.lemmas.Bool.{eq-eqb, ne_eqb}
 use Rattle.forms.specs.declared.faults.Fault.{Fault}
 use Rattle.forms.specs.declared.faults.Field.TheVariants.{Tip, End}
-use Rattle.forms.specs.Values.{TipAck, Ack}
-use Rattle.forms.specs.Reading.{Piece, Taken, Placed, Step, and_then, bind, yield, ended, whole, number, ack_up_to, tip_ack, with_tip, top_number, by_kind, ack_body, certified_body, tip_body, record_at, message_at, no_kind}
+use Rattle.forms.specs.Reading.{Piece, Taken, and_then, bind, yield, ended, whole, number, ack_up_to, with_tip, top_number, by_kind, ack_body, certified_body, tip_body, record_at, message_at, no_kind}
 
 -- whether the value is changed before the end is looked for or after makes no difference
 ended_changed : {A B : Type 0} (f : A → B) (a : A) (e : Fault) (b : Bool) → cond b (Ok (f a)) (Err e) ≡ and_then (cond b (Ok a) (Err e)) (λ x. Ok (f x))

@@ -1,10 +1,10 @@
 -- One turn of reading a number, group by group.
-use Rattle.std.proofs.Common.{◌≡◌, ℕ, zero, suc, ◌+◌, ◌-◌, ◌*◌, ◌/◌, ◌%◌, ◌^◌, ◌<◌, ◌≤◌, Bool, true, false, cond, ◌&&◌, ◌||◌, eqb, ltb, List, [], ◌∷◌, ◌++◌, Ok, Err, Result, sym, refl, ap, ◌∙◌, mul_assoc, mul_comm, add-mul, one-mul, mul-add, arith}
+use Rattle.std.proofs.Common.{◌≡◌, ℕ, ◌+◌, ◌-◌, ◌*◌, ◌/◌, ◌<◌, ◌≤◌, Bool, true, false, List, [], ◌∷◌, Ok, Err, Result, sym, ap, ◌∙◌, mul_assoc, mul_comm, mul-add, arith}
 use Rattle.std.proofs.lemmas.Bool.{lt-ltb, le-ltb}
 use Rattle.std.proofs.lemmas.Bool.Decides.{nat_tests}
 use Rattle.std.proofs.lemmas.Nat.{mul-le}
 use Rattle.forms.specs.declared.steps.Number.{Number}
-use Rattle.forms.specs.Uint.{uint, groups, wrong, behind}
+use Rattle.forms.specs.Uint.{groups, wrong, behind}
 
 -- what is found behind k groups of value v, where the next counts p
 abbrev pub past : ℕ → ℕ → ℕ → Result Number ℕ → Result Number ℕ

@@ -1,5 +1,5 @@
 -- How long the forms are when they are written.
-use Rattle.std.proofs.Common.{◌≡◌, ℕ, suc, ◌+◌, List, [], ◌∷◌, ◌++◌, length, sym, refl, ap, ◌∙◌, arith}
+use Rattle.std.proofs.Common.{◌≡◌, ℕ, ◌+◌, length, arith}
 use Rattle.std.proofs.lemmas.List.{length-append}
 use Rattle.forms.specs.Uint.{spell}
 use Rattle.forms.specs.Values.{Ack, Cert, TipAck, ack, certified, tip}

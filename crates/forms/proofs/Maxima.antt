@@ -1,11 +1,11 @@
 -- The largest size of each form, and a value that reaches it.
-use Rattle.std.proofs.Common.{◌≡◌, ℕ, ◌+◌, ◌≤◌, List, length, replicate, refl, arith}
+use Rattle.std.proofs.Common.{◌≡◌, ℕ, ◌+◌, ◌≤◌, length, replicate, refl, arith}
 use Rattle.std.proofs.lemmas.List.{length-replicate}
 use Rattle.forms.specs.Uint.{spell}
 use Rattle.forms.specs.Values.{Ack, Cert, TipAck, ack, certified, tip}
 use Rattle.forms.specs.Writing.{write, write_ack, write_message}
 use Rattle.forms.specs.Reading.{top_number, top_height, top_signer}
-use Rattle.forms.specs.Sizes.{SizedAck, SizedCert, SizedMessage, ShortCert, Most, top_certificate}
+use Rattle.forms.specs.Sizes.{SizedAck, SizedMessage, ShortCert, Most, top_certificate}
 use Rattle.forms.proofs.Spelling.{length-spell, spell-least}
 use Rattle.forms.proofs.Lengths.{length-ack, length-ack_record, length-certified, length-tip, length-message}
 

@@ -5,7 +5,7 @@ use Rattle.forms.specs.declared.faults.Field.TheVariants.{Kind, Height, Digest, 
 use Rattle.forms.specs.declared.faults.Fault.{Fault}
 use Rattle.forms.specs.declared.steps.Number.{Number}
 use Rattle.forms.specs.Uint.{uint}
-use Rattle.forms.specs.Values.{Ack, Cert, Activity, ack, certified, tip, TipAck}
+use Rattle.forms.specs.Values.{Ack, Activity, ack, certified, tip, TipAck}
 
 -- a part of the bytes read, and its place in them
 pub record Piece : Type 0 where

@@ -1,5 +1,5 @@
 -- Values of the sizes that the forms hold, and how long they are at most when they are written. Assumes nothing.
-use Rattle.std.specs.Prelude.{◌≡◌, ℕ, ◌≤◌, List, length}
+use Rattle.std.specs.Prelude.{◌≡◌, ℕ, ◌≤◌, length}
 use Rattle.forms.specs.declared.measures.Sizes.{Sizes}
 use Rattle.forms.specs.Reading.{top_number, top_height, top_signer}
 use Rattle.forms.specs.Values.{Ack, Cert, Activity, ack, certified, tip, TipAck}

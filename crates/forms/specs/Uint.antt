@@ -1,4 +1,4 @@
--- UInt: a number in groups of seven bits, low group first, the topNumber bit set while more follow. Assumes nothing.
+-- UInt: a number in groups of seven bits, low group first, the top bit set while more follow. Assumes nothing.
 use Rattle.std.specs.Prelude.{ℕ, zero, suc, ◌+◌, ◌-◌, ◌*◌, ◌/◌, ◌%◌, Bool, true, false, cond, ◌&&◌, ◌||◌, List, [], ◌∷◌, Ok, Err, Result, ◌==◌, nat_lt}
 use Rattle.forms.specs.declared.steps.Number.{Number}
 

@@ -2,7 +2,7 @@
 use Rattle.std.specs.Prelude.{ℕ, ◌+◌, cond, List, ◌∷◌, ◌++◌, length, take, drop, Ok, Err, Result, nat_le}
 use Rattle.forms.specs.declared.faults.Short.{Short}
 use Rattle.forms.specs.Uint.{spell}
-use Rattle.forms.specs.Values.{Ack, Cert, Activity, ack, certified, tip, TipAck}
+use Rattle.forms.specs.Values.{Ack, Activity, ack, certified, tip, TipAck}
 
 -- height, digest, epoch, signer, signature
 unfoldable pub write_ack : Ack → List ℕ

@@ -1,71 +1,35 @@
-use Rattle.std.proofs.Common.{◌≡◌, ℕ, ◌+◌, ◌-◌, ◌*◌, ◌/◌, ◌^◌, ◌<◌, ◌≤◌, true, false, ltb, length, get_or, drop, Err, sym, refl, ap, ◌∙◌, arith, rules}
+use Rattle.std.proofs.Common.{◌≡◌, ℕ, ◌+◌, ◌-◌, ◌*◌, ◌/◌, true, false, ltb, length, get_or, drop, Err, sym, ap, ◌∙◌, arith}
 use Rattle.std.proofs.lemmas.List.{at_drop_more, at_drop_all}
 use Rattle.std.proofs.lemmas.Bool.{lt-ltb}
 use Rattle.forms.specs.Uint.{groups}
-use Rattle.forms.proofs.Groups.{past, past-start, past-wrong, past-last, past_more, past_none, right_fits, value-fits, place-fits, low_fits, room_fits}
+use Rattle.forms.proofs.Groups.{past, past-start, past-wrong, past-last, past_more, past_none, right_fits, room_fits}
 use Rattle.forms.proofs.readers.read_uint.Goals as goal
 
 pub loop-k-init : goal.loop-k-init
 loop-k-init c = (past-start (groups false c.args.most c.args.bytes.now), omega arith)
 
-pub returns-then-wrong-group : goal.returns-then-wrong-group
-returns-then-wrong-group c =
+pub returns-then-wrong_group : goal.returns-then-wrong_group
+returns-then-wrong_group c =
     let bs = c.args.bytes.now in
     let l = c.loop-k in
     let d = at_drop_more (λ xs. past l.k l.value l.place (groups (ltb 0 l.k) l.room xs)) bs l.k 0 c.loop-k-test.true in
-    let w = past-wrong l.k l.value l.place l.room (get_or bs l.k 0) (ltb 0 l.k) (drop (l.k + 1) bs) (sym c.if-wrong-group.ensures) in
+    let w = past-wrong l.k l.value l.place l.room (get_or bs l.k 0) (ltb 0 l.k) (drop (l.k + 1) bs) (sym c.if-wrong_group.ensures) in
     record { value = sym (l.invariant.0 ∙ d ∙ w); within = tt; stops = omega arith }
-
-pub overflow-mul-result : goal.overflow-mul-result
-overflow-mul-result c =
-    let l = c.loop-k in
-    let r = right_fits (ltb 0 l.k) l.room (get_or c.args.bytes.now l.k 0) (sym c.if-wrong-group.ensures) in
-    omega (arith, value-fits c.args.most l.room l.value l.place (get_or c.args.bytes.now l.k 0) r l.invariant.1)
-
-pub overflow-add-result : goal.overflow-add-result
-overflow-add-result c =
-    let l = c.loop-k in
-    let r = right_fits (ltb 0 l.k) l.room (get_or c.args.bytes.now l.k 0) (sym c.if-wrong-group.ensures) in
-    omega (arith, value-fits c.args.most l.room l.value l.place (get_or c.args.bytes.now l.k 0) r l.invariant.1)
 
 pub returns-then-group-lt128 : goal.returns-then-group-lt128
 returns-then-group-lt128 c =
     let bs = c.args.bytes.now in
     let l = c.loop-k in
     let d = at_drop_more (λ xs. past l.k l.value l.place (groups (ltb 0 l.k) l.room xs)) bs l.k 0 c.loop-k-test.true in
-    let w = past-last l.k l.value l.place l.room (get_or bs l.k 0) (ltb 0 l.k) (drop (l.k + 1) bs) (sym c.if-wrong-group.ensures) c.if-group-lt128.true in
+    let w = past-last l.k l.value l.place l.room (get_or bs l.k 0) (ltb 0 l.k) (drop (l.k + 1) bs) (sym c.if-wrong_group.ensures) c.if-group-lt128.true in
     record { value = sym (l.invariant.0 ∙ d ∙ w); within = omega arith; stops = tt }
-
-pub overflow-mul-value : goal.overflow-mul-value
-overflow-mul-value c =
-    let l = c.loop-k in
-    let r = right_fits (ltb 0 l.k) l.room (get_or c.args.bytes.now l.k 0) (sym c.if-wrong-group.ensures) in
-    omega (arith, low_fits c.args.most l.room l.value l.place (get_or c.args.bytes.now l.k 0) c.if-group-lt128.false r l.invariant.1)
-
-pub overflow-add-value : goal.overflow-add-value
-overflow-add-value c =
-    let l = c.loop-k in
-    let r = right_fits (ltb 0 l.k) l.room (get_or c.args.bytes.now l.k 0) (sym c.if-wrong-group.ensures) in
-    omega (arith, low_fits c.args.most l.room l.value l.place (get_or c.args.bytes.now l.k 0) c.if-group-lt128.false r l.invariant.1)
-
-pub overflow-sub-room : goal.overflow-sub-room
-overflow-sub-room c =
-    let l = c.loop-k in
-    let r = right_fits (ltb 0 l.k) l.room (get_or c.args.bytes.now l.k 0) (sym c.if-wrong-group.ensures) in
-    omega arith
-
-pub overflow-mul-place : goal.overflow-mul-place
-overflow-mul-place c =
-    let l = c.loop-k in
-    let r = right_fits (ltb 0 l.k) l.room (get_or c.args.bytes.now l.k 0) (sym c.if-wrong-group.ensures) in
-    omega (arith, place-fits c.args.most l.room l.value l.place (get_or c.args.bytes.now l.k 0) c.if-group-lt128.false r l.invariant.1)
 
 pub loop-k-preserved : goal.loop-k-preserved
 loop-k-preserved c =
     let bs = c.args.bytes.now in
     let l = c.loop-k in
     let b = get_or bs l.k 0 in
-    let ok = sym c.if-wrong-group.ensures in
+    let ok = sym c.if-wrong_group.ensures in
     let d = at_drop_more (λ xs. past l.k l.value l.place (groups (ltb 0 l.k) l.room xs)) bs l.k 0 c.loop-k-test.true in
     let w = past_more l.k l.value l.place l.room b (ltb 0 l.k) (drop (l.k + 1) bs) ok c.if-group-lt128.false in
     let i : ltb 0 (l.k + 1) ≡ true = lt-ltb 0 (l.k + 1) (omega arith) in

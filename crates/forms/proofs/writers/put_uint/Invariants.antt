@@ -1,4 +1,4 @@
-use Rattle.std.proofs.Common.{◌≡◌, ◌+◌, ◌<◌, ◌≤◌, length}
+use Rattle.std.proofs.Common.{◌≡◌, ◌+◌, length}
 use Rattle.forms.specs.Uint.{spell}
 use Rattle.forms.specs.Writing.{put}
 use Rattle.forms.proofs.writers.put_uint.Given as goal

@@ -1,7 +1,6 @@
 use Rattle.std.proofs.Common.{◌≡◌, ◌+◌, ◌-◌, ◌/◌, length, sym, ap, arith}
 use lib.Count.{count_leading_zeros}
 use Rattle.std.proofs.lemmas.Nat.{leading_top}
-use Rattle.forms.specs.Uint.{spell}
 use Rattle.forms.proofs.Spelling.{spell_last, spell_bits}
 use Rattle.forms.proofs.writers.uint_len.Goals as goal
 

@@ -10,8 +10,8 @@ use Rattle.forms.proofs.writers.write_tip.Goals as goal
 pub bounds-out-0 : goal.bounds-out-0
 bounds-out-0 c = omega (arith, length-tip c.args.tip.0)
 
-pub put-uint-requires : goal.put-uint-requires
-put-uint-requires c = omega (arith, length-tip c.args.tip.0, length-set c.args.out.now 0 2)
+pub put_uint-requires : goal.put_uint-requires
+put_uint-requires c = simp length-set (omega (arith, length-tip c.args.tip.0))
 
 pub returns : goal.returns
 unfolding write
@@ -19,8 +19,8 @@ returns c =
     let t = c.args.tip.0 in
     let l = length-tip t in
     let h : length (write (tip t)) ≤ length c.args.out.now = omega arith in
-    let k : c.put-uint.result ≡ length (write (tip t)) = omega arith in
+    let k : c.put_uint.result ≡ length (write (tip t)) = omega arith in
     record {
       answer = ap (λ (x : ℕ). Ok x) k ∙ fitted-ok (write (tip t)) c.args.out.now h;
-      after = c.put-uint.ensures.after ∙ sym (laid_kind 2 (spell t) c.args.out.now (omega arith));
+      after = c.put_uint.ensures.after ∙ sym (laid_kind 2 (spell t) c.args.out.now (omega arith));
     }
