@@ -1,8 +1,8 @@
 -- Steps of reading that stop at the first byte with which nothing begins, and what is made of them.
-use Rattle.std.proofs.Common.{◌≡◌, ℕ, zero, suc, ◌+◌, ◌-◌, ◌<◌, ◌≤◌, List, [], ◌∷◌, ◌++◌, length, take, drop, Ok, Err, Result, sym, refl, ap, ◌∙◌, subst, arith}
+use Rattle.std.proofs.Common.{◌≡◌, ℕ, ◌+◌, ◌<◌, ◌≤◌, List, [], ◌++◌, length, take, Ok, Err, Result, sym, refl, ap, ◌∙◌, subst, arith}
 use lib.Seq.{take-append-add}
-use Rattle.std.proofs.lemmas.List.{append_assoc, append-nil, length-append, take_at, take-append-le, drop_at}
-use Rattle.std.proofs.lemmas.List.Elements.{All-append}
+use Rattle.std.proofs.lemmas.List.{append_assoc, length-append}
+use Rattle.std.proofs.lemmas.List.Elements.{All-nil, All-append}
 use Rattle.forms.specs.declared.faults.Fault.{Fault}
 use Rattle.forms.specs.declared.faults.Field.TheVariants.{End}
 use Rattle.forms.specs.Reading.{Piece, Taken, Step, and_then, bind, yield}
@@ -65,7 +65,7 @@ pub early_yield : {A : Type 0} (a : A) → Early (yield a)
 early_yield a =
     record {
       used = λ bs at t e. record { front = []; splits = (let l : from bs at ≡ t.left = cc in ap (λ p. p.bytes) l); place = (let l : from bs at ≡ t.left = cc in ap (λ p. p.at) (sym l) ∙ omega arith); again = λ q. (let l : from bs at ≡ t.left = cc in let v : a ≡ t.value = cc in let w : at ≡ t.left.at = ap (λ p. p.at) l in ap (λ x. found x q at) v ∙ ap (λ n. found t.value q n) w) };
-      some = λ at. record { bytes = []; are = tt; takes = record { value = a; end = at; reads = λ q. refl } };
+      some = λ at. record { bytes = []; are = All-nil (λ (b : ℕ). b < 256); takes = record { value = a; end = at; reads = λ q. refl } };
       stop = λ bs at f e. absurd (not_both (yield a (from bs at)) (record { value = a; left = from bs at }) f refl e);
     }
 

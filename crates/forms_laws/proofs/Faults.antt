@@ -1,13 +1,14 @@
 -- A fault names the first byte with which nothing valid begins.
-use Rattle.std.proofs.Common.{◌≡◌, ℕ, zero, suc, ◌+◌, ◌-◌, ◌<◌, ◌≤◌, Bool, true, false, cond, eqb, List, [], ◌∷◌, ◌++◌, length, take, drop, Ok, Err, Result, sym, refl, ap, ◌∙◌, subst, ⊎_elim, arith}
+use Rattle.std.proofs.Common.{◌≡◌, ℕ, suc, ◌+◌, ◌<◌, ◌≤◌, List, [], ◌∷◌, ◌++◌, length, take, drop, Ok, Err, Result, sym, refl, ap, ◌∙◌, subst, arith}
 use lib.Seq.{take-append-add}
 use Rattle.std.proofs.lemmas.Bool.{ne_eqb}
 use Rattle.std.proofs.lemmas.List.{append_assoc, append-nil, length-append, take_at, take-append-drop}
+use Rattle.std.proofs.lemmas.List.Elements.{All-nil}
 use Rattle.forms.specs.declared.faults.Fault.{Fault}
 use Rattle.forms.specs.declared.faults.Field.TheVariants.{End}
 use Rattle.forms.specs.Reading.{Piece, Taken, Step, and_then, ended, whole}
 use Rattle.forms_laws.specs.Laws.{Bytes, Valid, First}
-use Rattle.forms_laws.proofs.Early.{from, found, Used, Takes, Stop, Early, by_result, not_both, same-fault}
+use Rattle.forms_laws.proofs.Early.{from, found, Early, by_result, not_both, same-fault}
 
 -- the same of bytes that begin at a place: k is the index among them
 pub record Firsts {A : Type 0} (reads : List ℕ → Result A Fault) (at : ℕ) (bs : List ℕ) (f : Fault) : Type 0 where
@@ -93,7 +94,7 @@ module _ {A : Type 0} (s : Step A) where
         is = place;
         within = omega arith;
         more = [];
-        are = tt;
+        are = All-nil (λ (b : ℕ). b < 256);
         goes = (v, ap (λ z. whole s (from z at)) (append-nil (take n bs)) ∙ here);
         stops = λ h q. ap (λ z. whole s (from (z ++ q) at)) next ∙ ap (λ z. whole s (from z at)) (append_assoc front (b ∷ []) q) ∙ whole-ok (from (front ++ (b ∷ q)) at) (record { value = v; left = from (b ∷ q) end }) (again (b ∷ q)) ∙ ended_some v b q end;
         left = λ _. ((v, here), omega arith);

@@ -1,16 +1,17 @@
 -- The two kinds of fields, numbers and parts, are read by steps that stop as early as they can.
-use Rattle.std.proofs.Common.{◌≡◌, ℕ, zero, suc, ◌+◌, ◌-◌, ◌*◌, ◌/◌, ◌<◌, ◌≤◌, Bool, true, false, cond, leb, List, [], ◌∷◌, ◌++◌, length, take, drop, replicate, Ok, Err, Result, sym, refl, ap, ◌∙◌, subst, ⊎_elim, add-one, one-add, arith}
-use Rattle.std.proofs.lemmas.Bool.{cases_lt, cases_Bool, le-leb, lt-leb, leb-true, leb-false}
-use Rattle.std.proofs.lemmas.List.{append_assoc, append-nil, length-append, length-take-le, length-replicate, take-append-drop, take_all, take_at, drop_at}
+use Rattle.std.proofs.Common.{◌≡◌, ℕ, suc, ◌+◌, ◌-◌, ◌*◌, ◌/◌, ◌<◌, ◌≤◌, Bool, true, false, List, [], ◌∷◌, ◌++◌, length, take, drop, replicate, Ok, Err, Result, sym, refl, ap, ◌∙◌, subst, ⊎_elim, arith}
+use Rattle.std.proofs.lemmas.Bool.{cases_lt, cases_Bool, le-leb, lt-leb}
+use Rattle.std.proofs.lemmas.List.{length-append, length-take-le, length-replicate, take-append-drop, take_all, take_at, drop_at}
+use Rattle.std.proofs.lemmas.List.Elements.{All-nil, All-cons, All-replicate}
 use Rattle.forms.specs.declared.faults.Fault.{Fault}
 use Rattle.forms.specs.declared.faults.Field.{Field}
 use Rattle.forms.specs.declared.faults.Field.TheVariants.{End}
 use Rattle.forms.specs.declared.steps.Number.{Number}
 use Rattle.forms.specs.Uint.{uint, groups, wrong, behind}
-use Rattle.forms.specs.Reading.{Piece, Taken, Step, number, numbered, part}
+use Rattle.forms.specs.Reading.{Piece, Taken, number, numbered, part}
 use Rattle.forms_laws.specs.Laws.{Bytes}
 use Rattle.forms_laws.proofs.Numbers.{at_none, at-wrong, at_last, at_more, is_right, right_fits}
-use Rattle.forms_laws.proofs.Early.{from, found, Used, Takes, Some, Stop, Early, not_both}
+use Rattle.forms_laws.proofs.Early.{from, found, Used, Stop, Early, not_both}
 
 -- the groups of a number, which are taken again whatever follows
 record Groups (inner : Bool) (most : ℕ) (bs : List ℕ) (n : Number) : Type 0 where
@@ -81,7 +82,7 @@ halt_here inner most bs h stops =
     record {
       within = omega arith;
       more = least inner ∷ [];
-      are = (least_byte inner, tt);
+      are = All-cons (λ (b : ℕ). b < 256) (least inner) [] (least_byte inner) (All-nil (λ (b : ℕ). b < 256));
       number = record { value = least inner; len = 1 };
       len = refl;
       goes = λ q. least-goes inner most q h;
@@ -174,15 +175,11 @@ module _ (field : Field) (most : ℕ) (ne : field ≡ End → ⊥) where
         some = λ at.
             record {
               bytes = 0 ∷ [];
-              are = (least_byte false, tt);
+              are = All-cons (λ (b : ℕ). b < 256) 0 [] (least_byte false) (All-nil (λ (b : ℕ). b < 256));
               takes = record { value = 0; end = at + 1; reads = λ q. ap (numbered field (from (0 ∷ q) at)) (least-goes false most q (λ z. absurd (let y : ◌≡◌ {A = ℕ} 0 1 = cc in omega arith))) };
             };
         stop = λ bs at f e. number_stop bs at f (uint most bs) refl e;
       }
-
-zeros-bytes : (n : ℕ) → Bytes (replicate n 0)
-zeros-bytes zero = tt
-zeros-bytes (suc n) = (least_byte false, zeros-bytes n)
 
 module _ (field : Field) (n : ℕ) where
   pub part_long : (bs : List ℕ) (at : ℕ) → n ≤ length bs → part field n (from bs at) ≡ found (from (take n bs) at) (drop n bs) (at + n)
@@ -219,7 +216,7 @@ module _ (field : Field) (n : ℕ) (ne : field ≡ End → ⊥) where
         is = refl;
         within = omega arith;
         more = more;
-        are = zeros-bytes (n - length bs);
+        are = All-replicate (λ (b : ℕ). b < 256) (n - length bs) 0 (least_byte false);
         goes = record { value = from (take (length bs) bs ++ more) at; end = at + n; reads = λ q. part-takes field n (take (length bs) bs ++ more) at l q };
         stops = λ g q. absurd (omega arith);
         inside = ne;
@@ -233,7 +230,7 @@ module _ (field : Field) (n : ℕ) (ne : field ≡ End → ⊥) where
             (λ h. absurd (not_both (part field n (from bs at)) t (record { field = field; at = at + length bs }) e (part-short field n bs at h)))
             (λ h. part_used bs at t h e)
             (cases_lt (length bs) n);
-        some = λ at. record { bytes = replicate n 0; are = zeros-bytes n; takes = record { value = from (replicate n 0) at; end = at + n; reads = λ q. part-takes field n (replicate n 0) at (length-replicate {A = ℕ} n 0) q } };
+        some = λ at. record { bytes = replicate n 0; are = All-replicate (λ (b : ℕ). b < 256) n 0 (least_byte false); takes = record { value = from (replicate n 0) at; end = at + n; reads = λ q. part-takes field n (replicate n 0) at (length-replicate {A = ℕ} n 0) q } };
         stop = λ bs at f e.
             ⊎_elim
             (λ h. part_stop bs at f h e)

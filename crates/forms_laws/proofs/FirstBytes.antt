@@ -1,15 +1,15 @@
 -- The faults of records and of messages name the first byte with which nothing valid begins.
-use Rattle.std.proofs.Common.{◌≡◌, ℕ, zero, suc, ◌+◌, ◌-◌, ◌<◌, ◌≤◌, Bool, true, false, cond, List, [], ◌∷◌, ◌++◌, length, take, drop, Ok, Err, Result, sym, refl, ap, ◌∙◌, subst, ⊎_elim, arith}
-use Rattle.std.proofs.lemmas.Bool.{cases_lt, cases_eq}
+use Rattle.std.proofs.Common.{◌≡◌, ℕ, ◌<◌, List, [], ◌∷◌, ◌++◌, length, take, Ok, Err, Result, sym, refl, ap, ◌∙◌, subst, ⊎_elim, arith}
+use Rattle.std.proofs.lemmas.Bool.{cases_eq}
+use Rattle.std.proofs.lemmas.List.Elements.{All-nil, All-cons}
 use Rattle.forms.specs.declared.faults.Fault.{Fault}
-use Rattle.forms.specs.declared.faults.Field.{Field}
 use Rattle.forms.specs.declared.faults.Field.TheVariants.{Kind, Height, Digest, Epoch, Signer, Signature, Tip, End}
 use Rattle.forms.specs.Uint.{groups}
-use Rattle.forms.specs.Values.{Ack, Cert, Activity, ack, certified, tip, TipAck}
-use Rattle.forms.specs.Reading.{Piece, Taken, Placed, Step, and_then, bind, yield, number, part, ended, whole, top_number, top_height, top_signer, ack_up_to, tip_ack, with_tip, acked, tipped, ack_body, certified_body, tip_body, no_kind, by_kind, record_at, message_at, plain, read, message}
+use Rattle.forms.specs.Values.{Activity, certified, tip}
+use Rattle.forms.specs.Reading.{Piece, Taken, Placed, Step, and_then, bind, yield, number, part, whole, top_number, top_height, top_signer, ack_up_to, tip_ack, with_tip, acked, tipped, certified_body, record_at, message_at, plain, read, message}
 use Rattle.forms.proofs.Ends.{kind_none}
-use Rattle.forms_laws.specs.Laws.{Bytes, Valid, First, FirstFault}
-use Rattle.forms_laws.proofs.Early.{from, found, Early, early_bind, early_yield, by_result, not_both, same-fault}
+use Rattle.forms_laws.specs.Laws.{Valid, First, FirstFault}
+use Rattle.forms_laws.proofs.Early.{from, Early, early_bind, early_yield, by_result, not_both, same-fault}
 use Rattle.forms_laws.proofs.Fields.{early_number, early_part}
 use Rattle.forms_laws.proofs.Faults.{Firsts, step_first, whole-first, carried, from_start, behind-one}
 
@@ -139,7 +139,7 @@ first_kind bs f stops none e =
     (record {
       within = omega arith;
       more = 2 ∷ 0 ∷ [];
-      bytes = (omega arith, (omega arith, tt));
+      bytes = All-cons (λ (b : ℕ). b < 256) 2 (0 ∷ []) (omega arith) (All-cons (λ (b : ℕ). b < 256) 0 [] (omega arith) (All-nil (λ (b : ℕ). b < 256)));
       goes = (tip 0, refl);
       stops = λ h q v. not_both (read (take 1 bs ++ q)) v.0 (record { field = Kind; at = 0 }) v.1 (stops h q);
       left = λ z. absurd (no_kind_lem z);

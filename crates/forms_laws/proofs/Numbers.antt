@@ -1,12 +1,13 @@
 -- Reading a number: what is written is read back, and what is read is what would be written.
-use Rattle.std.proofs.Common.{◌≡◌, ℕ, zero, suc, ◌+◌, ◌-◌, ◌*◌, ◌/◌, ◌%◌, ◌<◌, ◌≤◌, Bool, true, false, cond, ◌&&◌, ◌||◌, eqb, ltb, List, [], ◌∷◌, ◌++◌, length, take, drop, Ok, Err, Result, sym, refl, ap, ◌∙◌, ⊎_elim, one-add, arith}
+use Rattle.std.proofs.Common.{◌≡◌, ℕ, zero, suc, ◌+◌, ◌-◌, ◌*◌, ◌/◌, ◌%◌, ◌<◌, ◌≤◌, Bool, true, false, List, [], ◌∷◌, ◌++◌, length, drop, Ok, Err, Result, sym, refl, ap, ◌∙◌, ⊎_elim, arith}
 use Rattle.std.proofs.lemmas.Bool.{cases_lt, cases_Bool, lt-ltb, le-ltb}
 use Rattle.std.proofs.lemmas.List.{drop_at}
+use Rattle.std.proofs.lemmas.List.Elements.{All-head, All-tail}
 use Rattle.std.proofs.lemmas.Bool.Decides.{nat_tests}
 use Rattle.forms.specs.declared.steps.Number.{Number}
-use Rattle.forms.specs.Uint.{uint, groups, wrong, behind, spell, spell_by}
+use Rattle.forms.specs.Uint.{uint, groups, wrong, behind, spell}
 use Rattle.forms.proofs.Spelling.{spell_last, spell-more}
-use Rattle.forms_laws.specs.Laws.{Bytes, Numbers}
+use Rattle.forms_laws.specs.Laws.{Bytes}
 
 module _ (inner : Bool) (most b : ℕ) (bs : List ℕ) where
   pub at-wrong : wrong inner most b ≡ true → groups inner most (b ∷ bs) ≡ Err 0
@@ -117,8 +118,8 @@ spelt (b ∷ bs) inner most n h e =
     ⊎_elim
     (λ lt. spelt-last inner most b bs n ok lt e)
     (λ ge.
-    spelt-behind inner most b bs n (groups true ((most - (b - 128)) / 128) bs) ok ge h.0 (sym (at_more inner most b bs ok ge) ∙ e)
-    (λ m f. spelt bs true ((most - (b - 128)) / 128) m h.1 f))
+    spelt-behind inner most b bs n (groups true ((most - (b - 128)) / 128) bs) ok ge (All-head (λ (b : ℕ). b < 256) b bs h) (sym (at_more inner most b bs ok ge) ∙ e)
+    (λ m f. spelt bs true ((most - (b - 128)) / 128) m (All-tail (λ (b : ℕ). b < 256) b bs h) f))
     (cases_lt b 128))
     (cases_Bool (wrong inner most b))
 

@@ -1,7 +1,8 @@
 -- What is written is read back, and what is read is what would be written.
-use Rattle.std.proofs.Common.{◌≡◌, ℕ, zero, suc, ◌+◌, ◌-◌, ◌<◌, ◌≤◌, List, [], ◌∷◌, ◌++◌, length, take, drop, Ok, Err, Result, sym, refl, ap, ◌∙◌, subst, ⊎_elim, arith}
+use Rattle.std.proofs.Common.{◌≡◌, ℕ, ◌+◌, ◌<◌, ◌≤◌, List, [], ◌∷◌, ◌++◌, length, take, drop, Ok, Err, Result, sym, refl, ap, ◌∙◌, subst, ⊎_elim, arith}
 use Rattle.std.proofs.lemmas.Bool.{cases_lt, cases_eq}
 use Rattle.std.proofs.lemmas.List.{append_assoc, append-nil, length-take-le, take-append-drop, drop_at}
+use Rattle.std.proofs.lemmas.List.Elements.{All-tail}
 use Rattle.forms.specs.declared.faults.Fault.{Fault}
 use Rattle.forms.specs.declared.faults.Field.{Field}
 use Rattle.forms.specs.declared.faults.Field.TheVariants.{Kind, Height, Digest, Epoch, Signer, Signature, Tip, End}
@@ -106,7 +107,7 @@ yield_is a p t e = cc
 
 bytes-behind : (xs ys : List ℕ) → Bytes (xs ++ ys) → Bytes ys
 bytes-behind [] ys h = h
-bytes-behind (x ∷ xs) ys h = bytes-behind xs ys h.1
+bytes-behind (x ∷ xs) ys h = bytes-behind xs ys (All-tail (λ (b : ℕ). b < 256) x (xs ++ ys) h)
 
 rest_bytes : (bs xs ys : List ℕ) → Bytes bs → bs ≡ xs ++ ys → Bytes ys
 rest_bytes bs xs ys h e = bytes-behind xs ys (let P : List ℕ → Type 0 = λ z. Bytes z in subst P e h)
@@ -285,14 +286,15 @@ unfolding record_at
 one_record [] x h e = absurd (not_both (read []) x (record { field = Kind; at = 0 }) e refl)
 one_record (k ∷ bs) x h e =
     let P : ℕ → Type 0 = λ n. One n bs x in
+    let r = All-tail (λ (b : ℕ). b < 256) k bs h in
     ⊎_elim
-    (λ z. subst P (sym z) (one-ack bs x h.1) e)
+    (λ z. subst P (sym z) (one-ack bs x r) e)
     (λ nz.
     ⊎_elim
-    (λ z. subst P (sym z) (one-certified bs x h.1) e)
+    (λ z. subst P (sym z) (one-certified bs x r) e)
     (λ no.
     ⊎_elim
-    (λ z. subst P (sym z) (one-tip bs x h.1) e)
+    (λ z. subst P (sym z) (one-tip bs x r) e)
     (λ nt. let g : 2 < k = omega arith in absurd (not_both (read (k ∷ bs)) x (record { field = Kind; at = 0 }) e (other_kind k bs g)))
     (cases_eq k 2))
     (cases_eq k 1))

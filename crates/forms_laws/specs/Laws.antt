@@ -4,8 +4,8 @@ use Rattle.forms.specs.declared.faults.Fault.{Fault}
 use Rattle.forms.specs.declared.faults.Field.TheVariants.{End}
 use Rattle.forms.specs.Uint.{spell, uint}
 use Rattle.forms.specs.Values.{Ack, Activity, ack, certified, tip, TipAck}
-use Rattle.forms.specs.Reading.{Placed, record_at, message_at, read, message}
-use Rattle.forms.specs.Writing.{write_ack, write, write_message}
+use Rattle.forms.specs.Reading.{record_at, message_at, read, message}
+use Rattle.forms.specs.Writing.{write, write_message}
 use Rattle.forms.specs.Sizes.{Sized, SizedMessage}
 
 abbrev pub Bytes : List ℕ → Type 0
