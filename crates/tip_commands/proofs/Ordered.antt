@@ -1,5 +1,5 @@
 -- Seats in ascending order, as a test and as a fact.
-use Rattle.std.proofs.Common.{◌≡◌, true, ◌&&◌, List, [], ◌∷◌, refl}
+use Rattle.std.proofs.Common.{◌≡◌, true, [], ◌∷◌, refl}
 use Rattle.std.proofs.lemmas.Bool.{and_parts, and_from}
 use Rattle.table.specs.Keys.{ahead}
 use Rattle.table.specs.Rows.{Above, Sorted}

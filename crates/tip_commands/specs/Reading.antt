@@ -1,5 +1,5 @@
 -- What the words of a line say. Assumes nothing.
-use Rattle.std.specs.Prelude.{◌≡◌, ℕ, ◌+◌, Bool, cond, ◌||◌, List, [], ◌∷◌, length, is_some, Some, None, Ok, Err, codes, Option, Result, nat_lt}
+use Rattle.std.specs.Prelude.{ℕ, ◌+◌, cond, ◌||◌, List, [], ◌∷◌, length, is_some, Some, None, Ok, Err, codes, Option, Result, nat_lt}
 use Rattle.std.specs.Str.{bytes_eq}
 use Rattle.table.specs.Keys.{ahead}
 use Rattle.table.specs.Rows.{at, put}
