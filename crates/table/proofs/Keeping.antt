@@ -1,6 +1,6 @@
 -- What `put` and `without` keep: the order, and what holds of each entry. Assumes nothing.
-use Rattle.std.proofs.Common.{◌≡◌, Bool, true, false, cond, List, [], ◌∷◌, All, refl, subst}
-use Rattle.std.proofs.lemmas.List.Elements.{All-nil, All-cons, All-head, All-tail}
+use Rattle.std.proofs.Common.{◌≡◌, Bool, true, false, cond, List, [], ◌∷◌, refl, subst}
+use Rattle.std.specs.List.{AllByRecursion as All}
 use Rattle.table.specs.declared.Entry.{Entry}
 use Rattle.table.specs.Order.{Total}
 use Rattle.table.specs.Rows.{entry, Above, Sorted, put, without}
@@ -8,22 +8,22 @@ use Rattle.table.specs.Rows.{entry, Above, Sorted, put, without}
 module _ {K V : Type 0} (less : K → K → Bool) where
   -- what holds of each entry
   pub all-put : (P : Entry K V → Type 0) (k : K) (v : V) (es : List (Entry K V)) → P (entry k v) → All P es → All P (put less k v es)
-  all-put P k v [] h hs = All-cons P (entry k v) [] h (All-nil P)
-  all-put P k v (e ∷ es) h hs = go (less e.key k) (less k e.key) (all-put P k v es h (All-tail P e es hs))
+  all-put P k v [] h hs = (h, tt)
+  all-put P k v (e ∷ es) h hs = go (less e.key k) (less k e.key) (all-put P k v es h hs.1)
     where
       go : (a b : Bool) → All P (put less k v es) → All P (cond a (e ∷ put less k v es) (cond b (entry k v ∷ e ∷ es) (entry k v ∷ es)))
-      go true b more = All-cons P e (put less k v es) (All-head P e es hs) more
-      go false true more = All-cons P (entry k v) (e ∷ es) h hs
-      go false false more = All-cons P (entry k v) es h (All-tail P e es hs)
+      go true b more = (hs.0, more)
+      go false true more = (h, hs)
+      go false false more = (h, hs.1)
 
   pub all_without : (P : Entry K V → Type 0) (k : K) (es : List (Entry K V)) → All P es → All P (without less k es)
-  all_without P k [] hs = hs
-  all_without P k (e ∷ es) hs = go (less e.key k) (less k e.key) (all_without P k es (All-tail P e es hs))
+  all_without P k [] hs = tt
+  all_without P k (e ∷ es) hs = go (less e.key k) (less k e.key) (all_without P k es hs.1)
     where
       go : (a b : Bool) → All P (without less k es) → All P (cond a (e ∷ without less k es) (cond b (e ∷ es) es))
-      go true b more = All-cons P e (without less k es) (All-head P e es hs) more
+      go true b more = (hs.0, more)
       go false true more = hs
-      go false false more = All-tail P e es hs
+      go false false more = hs.1
 
 module _ {K V : Type 0} {less : K → K → Bool} (o : Total less) where
   above-put : (x k : K) (v : V) (es : List (Entry K V)) → less x k ≡ true → Above less x es → Above less x (put less k v es)

@@ -1,9 +1,8 @@
 -- Keys of a set, and the seats for them. Assumes nothing.
-use Rattle.std.proofs.Common.{◌≡◌, ℕ, ◌+◌, ◌<◌, ◌≤◌, Bool, true, false, cond, ◌||◌, List, [], ◌∷◌, ◌++◌, map, length, get_or, take, drop, set, sym, refl, ap, ◌∙◌, arith}
+use Rattle.std.proofs.Common.{◌≡◌, ℕ, ◌+◌, ◌<◌, Bool, ◌||◌, List, [], ◌∷◌, ◌++◌, map, length, get_or, take, drop, set, sym, ap, ◌∙◌, arith}
 use Rattle.std.proofs.lemmas.List.{at_drop_more, take_more, take_more_set, map_push, take_all, get_or-take, get_or-map}
-use Rattle.table.specs.declared.Entry.{Entry}
 use Rattle.table.specs.Order.{level}
-use Rattle.table.specs.Rows.{entry, Above, Sorted}
+use Rattle.table.specs.Rows.{Above, Sorted}
 use Rattle.types.specs.declared.heights.Height.{Height}
 use Rattle.tips.specs.Seats.{among, seated, opened, Ascending}
 

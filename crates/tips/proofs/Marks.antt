@@ -1,6 +1,6 @@
 -- Two tables with a height between them, the mark: hi has the highest tips, and lo the others. Assumes nothing.
-use Rattle.std.proofs.Common.{◌≡◌, ℕ, ◌+◌, ◌-◌, ◌<◌, ◌≤◌, min, max, Bool, true, false, cond, ltb, leb, ◌⊎◌, List, [], ◌∷◌, is_some, All, sym, refl, ap, ◌∙◌, inl, inr, arith}
-use Rattle.std.proofs.lemmas.List.Elements.{All-weaker}
+use Rattle.std.proofs.Common.{◌≡◌, ℕ, ◌+◌, ◌<◌, ◌≤◌, min, max, Bool, true, false, cond, leb, ◌⊎◌, [], ◌∷◌, is_some, ap, inl, inr, arith}
+use Rattle.std.specs.List.{AllByRecursion as All}
 use Rattle.std.proofs.lemmas.Bool.{le-leb, lt-leb, cases_lt}
 use Rattle.std.proofs.lemmas.Bool.Decides.{nat_tests}
 use Rattle.table.specs.declared.Entry.{Entry}
@@ -9,9 +9,9 @@ use Rattle.table.specs.Rows.{at, Above}
 use Rattle.types.specs.declared.heights.Height.{Height}
 use Rattle.tips.specs.Counting.{Rows, weigh, total, shifted, Topmost}
 use Rattle.tips.specs.Faults.{faults}
-use Rattle.tips.proofs.Weights.{weigh-all, weigh_none, weigh-le}
+use Rattle.tips.proofs.Weights.{All-weaker, weigh-all, weigh_none, weigh-le}
 use Rattle.tips.proofs.Tidy.{Counted}
-use Rattle.tips.proofs.Shifts.{weigh-shifted, total-shifted, all-shifted}
+use Rattle.tips.proofs.Shifts.{total-shifted, all-shifted}
 
 pub record Marked (lo hi : Rows) : Type 0 where
   pub top : total hi ≡ faults (total lo + total hi)

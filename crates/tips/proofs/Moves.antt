@@ -1,12 +1,13 @@
 -- One tip that rises, or falls to 0, and the tables after it. Assumes nothing.
-use Rattle.std.proofs.Common.{◌≡◌, ℕ, ◌+◌, ◌<◌, ◌≤◌, max, Bool, true, false, cond, ◌||◌, List, [], ◌∷◌, is_some, Some, None, All, Option, sym, refl, ap, ◌∙◌, subst, arith}
-use Rattle.std.proofs.lemmas.List.Elements.{All-weaker}
+use Rattle.std.proofs.Common.{◌≡◌, ℕ, ◌+◌, ◌<◌, ◌≤◌, max, Bool, true, false, cond, ◌||◌, [], ◌∷◌, is_some, Some, None, sym, refl, ap, ◌∙◌, subst, arith}
+use Rattle.std.specs.List.{AllByRecursion as All}
 use Rattle.std.proofs.lemmas.Bool.{lt-ltb, le-ltb}
 use Rattle.table.specs.declared.Entry.{Entry}
 use Rattle.table.specs.Keys.{shorter}
 use Rattle.table.specs.Rows.{at, Sorted}
 use Rattle.types.specs.declared.heights.Height.{Height}
 use Rattle.tips.specs.Counting.{Rows, weigh, total, shifted, least, greatest, tidy, Topmost}
+use Rattle.tips.proofs.Weights.{All-weaker}
 use Rattle.tips.proofs.Tidy.{Counted, counted}
 use Rattle.tips.proofs.Shifts.{some_of, all-at, weigh-shifted, total-shifted}
 use Rattle.tips.proofs.Marks.{Marked, marked, topmost, above-all, in_hi, in_lo, in_both}
@@ -72,7 +73,7 @@ below_none new (e ∷ d ∷ es) is = absurd (never es d is)
 module _ (lo hi : Rows) (tl : tidy lo ≡ true) (th : tidy hi ≡ true) (few : total lo + total hi ≤ 16) (t : Topmost lo hi) where
   -- what two tables that one tip has changed keep, and how they count
   pub record Step (old new : Height) (lo' hi' : Rows) : Type 0 where
-    pub fits : (total lo' + total hi' ≤ 16) × (Topmost lo' hi' × Unit {0})
+    pub fits : (total lo' + total hi' ≤ 16) × Topmost lo' hi'
     pub moved : (p : ℕ → Bool) → (weigh p lo' + weigh p hi') + cond (p old.0) 1 0 ≡ (weigh p lo + weigh p hi) + cond (p new.0) 1 0
 
   kl : Counted lo
@@ -87,19 +88,19 @@ module _ (lo hi : Rows) (tl : tidy lo ≡ true) (th : tidy hi ≡ true) (few : t
   module _ (old new : Height) (n : ℕ) where
     step_hi : is_some (at shorter old hi) ≡ true → All (λ e. e.key.0 ≤ n) lo → All (λ e. n ≤ e.key.0) hi → n ≤ new.0 → (hi' : Rows) → hi' ≡ shifted old new hi → Step old new lo hi'
     step_hi there us os up hi' is = subst (λ x. Step old new lo x) (sym is) (record {
-      fits = (omega (arith, few, total-shifted old new hi kh there), (topmost lo (shifted old new hi) (in_hi lo hi kl kh m n old new there us os up), tt));
+      fits = (omega (arith, few, total-shifted old new hi kh there), topmost lo (shifted old new hi) (in_hi lo hi kl kh m n old new there us os up));
       moved = λ p. omega (arith, weigh-shifted old new hi kh there p);
     })
 
     step_lo : is_some (at shorter old lo) ≡ true → All (λ e. e.key.0 ≤ n) lo → All (λ e. n ≤ e.key.0) hi → new.0 ≤ n → (lo' : Rows) → lo' ≡ shifted old new lo → Step old new lo' hi
     step_lo there us os up lo' is = subst (λ x. Step old new x hi) (sym is) (record {
-      fits = (omega (arith, few, total-shifted old new lo kl there), (topmost (shifted old new lo) hi (in_lo lo hi kl kh m n old new there us os up), tt));
+      fits = (omega (arith, few, total-shifted old new lo kl there), topmost (shifted old new lo) hi (in_lo lo hi kl kh m n old new there us os up));
       moved = λ p. omega (arith, weigh-shifted old new lo kl there p);
     })
 
-  step_both : (a b c d : Height) (n : ℕ) → is_some (at shorter a lo) ≡ true → is_some (at shorter c hi) ≡ true → All (λ e. e.key.0 ≤ n) lo → All (λ e. n ≤ e.key.0) hi → b.0 ≤ n → n ≤ d.0 → (total (shifted a b lo) + total (shifted c d hi) ≤ 16) × (Topmost (shifted a b lo) (shifted c d hi) × Unit {0})
+  step_both : (a b c d : Height) (n : ℕ) → is_some (at shorter a lo) ≡ true → is_some (at shorter c hi) ≡ true → All (λ e. e.key.0 ≤ n) lo → All (λ e. n ≤ e.key.0) hi → b.0 ≤ n → n ≤ d.0 → (total (shifted a b lo) + total (shifted c d hi) ≤ 16) × Topmost (shifted a b lo) (shifted c d hi)
   step_both a b c d n ta tc us os low high =
-      (omega (arith, few, total-shifted a b lo kl ta, total-shifted c d hi kh tc), (topmost (shifted a b lo) (shifted c d hi) (in_both lo hi kl kh m n a b c d ta tc us os low high), tt))
+      (omega (arith, few, total-shifted a b lo kl ta, total-shifted c d hi kh tc), topmost (shifted a b lo) (shifted c d hi) (in_both lo hi kl kh m n a b c d ta tc us os low high))
 
   module _ (old new : Height) where
     -- a tip that rises: in hi, in lo, or over the least of hi

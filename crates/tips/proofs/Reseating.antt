@@ -1,5 +1,5 @@
 -- A change of the set: the settled seats of the old set and the seats of the new one count the same tips. Assumes nothing.
-use Rattle.std.proofs.Common.{◌≡◌, ℕ, ◌+◌, ◌<◌, ◌≤◌, Bool, true, false, cond, ◌||◌, List, [], ◌∷◌, map, length, Some, None, sum_by, count_by, Option, unwrap_or, sym, refl, ap, ◌∙◌, subst, arith}
+use Rattle.std.proofs.Common.{◌≡◌, ℕ, ◌+◌, Bool, true, false, cond, ◌||◌, List, [], ◌∷◌, map, length, Some, None, sum_by, Option, unwrap_or, sym, refl, ap, ◌∙◌, subst, arith}
 use Rattle.std.proofs.lemmas.List.Sums.{sum_by-cons}
 use Rattle.table.specs.declared.Entry.{Entry}
 use Rattle.table.specs.Order.{Total, level}
@@ -8,8 +8,8 @@ use Rattle.table.proofs.Keeping.{above-trans}
 use Rattle.types.specs.declared.heights.Height.{Height}
 use Rattle.types.specs.Numbers.{height}
 use Rattle.tips.specs.declared.safe_tip.SafeTip.{SafeTip}
-use Rattle.tips.specs.Seats.{tip_of, tips_of, seated, opened, among, carried, reseated, settled, Ascending}
-use Rattle.tips.specs.Tips.{lowest, highest, counted, Holds, Recorded}
+use Rattle.tips.specs.Seats.{tip_of, tips_of, opened, among, carried, reseated, settled, Ascending}
+use Rattle.tips.specs.Tips.{lowest, highest, Holds, Recorded}
 use Rattle.tips.proofs.Splits.{split}
 
 -- sums over a list

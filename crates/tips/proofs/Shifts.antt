@@ -1,14 +1,14 @@
 -- One tip of a table of counts at another height. Assumes nothing.
-use Rattle.std.proofs.Common.{◌≡◌, ℕ, ◌+◌, ◌-◌, ◌<◌, ◌≤◌, Bool, true, false, cond, ltb, List, [], ◌∷◌, is_some, Some, None, All, Option, sym, refl, ap, ◌∙◌, arith}
+use Rattle.std.proofs.Common.{◌≡◌, ℕ, ◌+◌, ◌-◌, Bool, true, false, cond, ltb, [], ◌∷◌, is_some, Some, None, Option, refl, arith}
+use Rattle.std.specs.List.{AllByRecursion as All}
 use Rattle.std.proofs.lemmas.Bool.Decides.{nat_tests}
-use Rattle.table.specs.declared.Entry.{Entry}
 use Rattle.table.specs.Keys.{shorter}
 use Rattle.table.specs.Rows.{at, put, without}
 use Rattle.table.proofs.Keeping.{all-put, all_without}
 use Rattle.types.specs.declared.heights.Height.{Height}
-use Rattle.tips.specs.Counting.{Rows, weigh, total, more, fewer, shifted}
+use Rattle.tips.specs.Counting.{Rows, weigh, total, fewer, shifted}
 use Rattle.tips.proofs.Weights.{weigh-more, weigh-fewer, at_some}
-use Rattle.tips.proofs.Tidy.{Counted, counted-more, counted-fewer}
+use Rattle.tips.proofs.Tidy.{Counted}
 
 pub some_of : {X : Type 0} (o : Option X) → is_some o ≡ true → (c : X) × (o ≡ Some c)
 some_of None h = absurd (let z : ◌≡◌ {A = ℕ} 0 1 = cc in omega arith)

@@ -1,21 +1,20 @@
 -- From the tables to the tips: the tables of a SafeTip split the tips that they count, and the greatest of lo is the safe tip. Assumes nothing.
-use Rattle.std.proofs.Common.{◌≡◌, ℕ, zero, suc, ◌+◌, ◌-◌, ◌<◌, ◌≤◌, min, Bool, true, false, cond, ◌||◌, eqb, ltb, leb, List, [], ◌∷◌, map, length, replicate, is_some, Some, None, All, sum_by, count_by, Option, sym, refl, ap, ◌∙◌, arith}
-use Rattle.std.proofs.lemmas.List.Elements.{All-weaker}
+use Rattle.std.proofs.Common.{◌≡◌, ℕ, ◌+◌, ◌<◌, ◌≤◌, min, Bool, true, false, cond, ◌||◌, eqb, ltb, leb, List, [], ◌∷◌, length, is_some, Some, None, count_by, sym, refl, ap, ◌∙◌, arith}
 use Rattle.std.proofs.lemmas.List.Sums.{sum_by-cons}
-use Rattle.std.proofs.lemmas.Bool.{le-ltb, le-leb, ne_eqb, eq-eqb}
+use Rattle.std.proofs.lemmas.Bool.{le-ltb, le-leb, ne_eqb}
 use Rattle.std.proofs.lemmas.Bool.Decides.{nat_tests}
 use Rattle.table.specs.declared.Entry.{Entry}
 use Rattle.table.specs.Keys.{shorter}
 use Rattle.table.specs.Rows.{at, Sorted}
 use Rattle.types.specs.declared.heights.Height.{Height}
-use Rattle.tips.specs.Counting.{Rows, weigh, total, greatest, tidy, zeros, Topmost}
+use Rattle.tips.specs.Counting.{Rows, weigh, total, greatest, tidy, Topmost}
 use Rattle.tips.specs.Faults.{faults}
 use Rattle.tips.specs.Ranks.{Safe, Split}
-use Rattle.tips.proofs.Weights.{weigh_none, weigh-le, at_some}
-use Rattle.tips.proofs.Tidy.{Counted, counted}
+use Rattle.tips.proofs.Weights.{All-weaker, weigh_none, weigh-le, at_some}
+use Rattle.tips.proofs.Tidy.{counted}
 use Rattle.tips.proofs.Shifts.{some_of}
 use Rattle.tips.proofs.Marks.{all_zero, above-all}
-use Rattle.tips.proofs.Moves.{Last, last_is}
+use Rattle.tips.proofs.Moves.{last_is}
 
 count-all : (xs : List ℕ) → count_by (λ _. true) xs ≡ length xs
 count-all [] = refl

@@ -1,8 +1,8 @@
 -- A table of counts stays tidy: its heights ascend, each counted at least once. Assumes nothing.
-use Rattle.std.proofs.Common.{◌≡◌, ℕ, suc, ◌+◌, ◌-◌, ◌<◌, ◌≤◌, Bool, true, false, cond, ◌&&◌, ltb, List, [], ◌∷◌, length, get_or, Some, None, All, Option, refl, ap, ◌∙◌, arith}
+use Rattle.std.proofs.Common.{◌≡◌, ℕ, ◌-◌, ◌<◌, Bool, true, false, cond, ◌&&◌, ltb, [], ◌∷◌, Some, None, Option, refl, ap, arith}
+use Rattle.std.specs.List.{AllByRecursion as All}
 use Rattle.std.proofs.lemmas.Bool.{and_parts, and_from, ltb-true, lt-ltb}
 use Rattle.std.proofs.lemmas.Bool.Decides.{nat_tests}
-use Rattle.table.specs.declared.Entry.{Entry}
 use Rattle.table.specs.Keys.{shorter}
 use Rattle.table.specs.Order.{Total}
 use Rattle.table.specs.Rows.{at, put, without, Sorted, Above}

@@ -1,9 +1,9 @@
 -- There is at most one (f + 1)-th largest. Assumes nothing.
-use Rattle.std.proofs.Common.{◌≡◌, ℕ, ◌+◌, ◌<◌, ◌≤◌, Bool, true, false, cond, ltb, leb, List, [], ◌∷◌, count_by, inl, inr, arith}
+use Rattle.std.proofs.Common.{ℕ, ◌<◌, ◌≤◌, cond, ltb, leb, List, [], ◌∷◌, count_by, inl, inr, arith}
 use Rattle.std.proofs.lemmas.List.Sums.{sum_by-cons}
 use Rattle.std.proofs.lemmas.Bool.{cases_order}
 use Rattle.std.proofs.lemmas.Bool.Decides.{nat_tests}
-use Rattle.tips.specs.Ranks.{Largest, One}
+use Rattle.tips.specs.Ranks.{One}
 
 fewer-above : (t u : ℕ) → t < u → (xs : List ℕ) → count_by (λ x. leb u x) xs ≤ count_by (λ x. ltb t x) xs
 fewer-above t u l [] = omega arith

@@ -1,11 +1,15 @@
 -- What one tip more or one fewer makes of a table of counts. Assumes nothing.
-use Rattle.std.proofs.Common.{◌≡◌, ℕ, ◌+◌, ◌-◌, ◌<◌, ◌≤◌, Bool, true, false, cond, ltb, List, [], ◌∷◌, length, is_some, Some, None, All, Option, unwrap_or, sym, refl, ap, ◌∙◌, arith}
+use Rattle.std.proofs.Common.{◌≡◌, ℕ, ◌+◌, ◌-◌, ◌<◌, ◌≤◌, Bool, true, false, cond, ltb, List, [], ◌∷◌, length, Some, None, Option, unwrap_or, refl, ap, ◌∙◌, arith}
+use Rattle.std.specs.List.{AllByRecursion as All}
 use Rattle.std.proofs.lemmas.Bool.Decides.{nat_tests}
-use Rattle.table.specs.declared.Entry.{Entry}
 use Rattle.types.specs.declared.heights.Height.{Height}
 use Rattle.table.specs.Keys.{shorter}
 use Rattle.table.specs.Rows.{entry, at, put, without}
 use Rattle.tips.specs.Counting.{Rows, weigh, more, fewer}
+
+pub All-weaker : {X : Type 0} (P Q : X → Type 0) → ((x : X) → P x → Q x) → (xs : List X) → All P xs → All Q xs
+All-weaker P Q f [] hs = tt
+All-weaker P Q f (x ∷ xs) hs = (f x hs.0, All-weaker P Q f xs hs.1)
 
 pub at-le : (h : Height) (es : Rows) → unwrap_or (at shorter h es) 0 ≤ weigh (λ _. true) es
 at-le h [] = omega arith

@@ -1,5 +1,5 @@
 -- Tables of counts: how many signers have recorded each height. Assumes nothing.
-use Rattle.std.specs.Prelude.{◌≡◌, ℕ, ◌+◌, ◌-◌, min, Bool, true, false, cond, ◌&&◌, List, [], ◌∷◌, Some, None, Option, nat_le, nat_lt}
+use Rattle.std.specs.Prelude.{◌≡◌, ℕ, ◌+◌, ◌-◌, min, Bool, true, cond, ◌&&◌, List, [], ◌∷◌, Some, None, Option, nat_le, nat_lt}
 use Rattle.std.specs.Option.{unwrap_or, option_map}
 use Rattle.table.specs.declared.Entry.{Entry}
 use Rattle.table.specs.Ends.{foremost, hindmost}

@@ -1,5 +1,5 @@
 -- How many of n signers may be faulty, and how many are a quorum. Assumes nothing.
-use Rattle.std.specs.Prelude.{◌≡◌, ℕ, ◌-◌, ◌/◌, List, [], ◌∷◌, map}
+use Rattle.std.specs.Prelude.{◌≡◌, ℕ, ◌-◌, ◌/◌, [], ◌∷◌, map}
 
 -- f: fewer than a third of n signers may be faulty
 abbrev pub faults : ℕ → ℕ

@@ -1,5 +1,5 @@
 -- Seats: each signer's key with the tip that it has told. Assumes nothing.
-use Rattle.std.specs.Prelude.{◌≡◌, ℕ, Bool, true, false, cond, ◌||◌, List, [], ◌∷◌, map, Some, None, Option, nat_lt}
+use Rattle.std.specs.Prelude.{ℕ, Bool, false, cond, ◌||◌, List, [], ◌∷◌, map, Some, None, Option, nat_lt}
 use Rattle.std.specs.Option.{unwrap_or}
 use Rattle.table.specs.declared.Entry.{Entry}
 use Rattle.table.specs.Order.{level}

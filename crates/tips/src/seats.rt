@@ -11,7 +11,7 @@ use types::Height;
 
 /// The place of the seat of `key`, if it has one.
 pub fn seat_of<K: Key>(seats: &[Entry<K, Height>], key: &K) -> Option<usize>
-    ensures placed { result ≡ place less key.now seats.now }
+    ensures placed { result ≡ place K.less key.now seats.now }
     ensures within { elim result [ Some i ↦ i < length seats.now | None ↦ Unit {0} ] }
 {
     table::position(seats, key)
@@ -19,14 +19,14 @@ pub fn seat_of<K: Key>(seats: &[Entry<K, Height>], key: &K) -> Option<usize>
 
 /// Whether the two keys are one.
 fn same<K: Key>(x: &K, y: &K) -> bool
-    ensures { result ≡ level less x.now y.now }
+    ensures { result ≡ level K.less x.now y.now }
 {
     !x.before(y) && !y.before(x)
 }
 
 /// Whether `key` is one of the `keys`.
 pub fn is_among<K: Key>(keys: &[K], key: &K) -> bool
-    ensures { result ≡ among less key.now keys.now }
+    ensures { result ≡ among K.less key.now keys.now }
 {
     for k in keys {
         if same(k, key) {
@@ -38,7 +38,7 @@ pub fn is_among<K: Key>(keys: &[K], key: &K) -> bool
 
 /// The tip that `key` brings to a new set: its own, or 0 where it has no seat.
 fn carry<K: Key>(seats: &[Entry<K, Height>], key: &K) -> Height
-    ensures { result ≡ carried less seats.now key.now }
+    ensures { result ≡ carried K.less seats.now key.now }
 {
     table::lookup(seats, key).unwrap_or(Height(0))
 }
@@ -46,7 +46,7 @@ fn carry<K: Key>(seats: &[Entry<K, Height>], key: &K) -> Height
 /// Writes the tips that the keys bring to a new set, in their order, in front of `tips`.
 fn carry_all<K: Key>(seats: &[Entry<K, Height>], keys: &[K], tips: &mut [Height])
     requires { length keys.now ≤ length tips.old }
-    ensures { take (length keys.now) tips.new ≡ map (carried less seats.now) keys.now }
+    ensures { take (length keys.now) tips.new ≡ map (carried K.less seats.now) keys.now }
 {
     for (i, key) in keys.iter().enumerate() {
         tips[i] = carry(seats, key);
@@ -71,7 +71,7 @@ pub fn seat_all<K: Key>(seats: &mut [Entry<K, Height>], keys: &[K], tips: &[Heig
 pub fn change<K: Key>(seats: &mut [Entry<K, Height>], keys: &[K])
     requires sized { length keys.now ≡ length seats.old }
     requires few { length keys.now ≤ 16 }
-    ensures { seats.new ≡ reseated less keys.now seats.old }
+    ensures { seats.new ≡ reseated K.less keys.now seats.old }
 {
     let mut tips = [Height(0); MAX_SIGNERS];
     carry_all(seats, keys, &mut tips);

@@ -37,7 +37,7 @@ impl SafeTip {
         ensures seats { seats.new ≡ (if is_ok result then opened keys.now else seats.old) }
         ensures kept { Kept result self.old self.new }
         ensures holds { is_ok result ≡ true → Holds seats.new self.new }
-        ensures sorted { is_ok result ≡ true → Ascending less keys.now → Sorted less seats.new }
+        ensures sorted { is_ok result ≡ true → Ascending K.less keys.now → Sorted K.less seats.new }
     {
         let n = keys.len();
         if n == 0 || n > MAX_SIGNERS || n != seats.len() {
@@ -63,10 +63,10 @@ impl SafeTip {
         keys: &[K],
     ) -> Result<(), SetSize>
         ensures answer { Sized (fitting (length seats.old) (length keys.now)) (length seats.old) (length keys.now) result }
-        ensures seats { seats.new ≡ (if is_ok result then reseated less keys.now seats.old else seats.old) }
+        ensures seats { seats.new ≡ (if is_ok result then reseated K.less keys.now seats.old else seats.old) }
         ensures kept { Kept result self.old self.new }
-        ensures holds { Sorted less seats.old → Ascending less keys.now → Holds seats.old self.old → Holds seats.new self.new }
-        ensures sorted { Sorted less seats.old → Ascending less keys.now → Sorted less seats.new }
+        ensures holds { Sorted K.less seats.old → Ascending K.less keys.now → Holds seats.old self.old → Holds seats.new self.new }
+        ensures sorted { Sorted K.less seats.old → Ascending K.less keys.now → Sorted K.less seats.new }
     {
         // Verify the size of the new set.
         let n = keys.len();
@@ -100,12 +100,12 @@ impl SafeTip {
         key: &K,
         tip: Height,
     ) -> Option<Height>
-        ensures answer { result ≡ replaced less key.now tip seats.old self.old }
-        ensures seats { seats.new ≡ seated_after less key.now tip result seats.old }
+        ensures answer { result ≡ replaced K.less key.now tip seats.old self.old }
+        ensures seats { seats.new ≡ seated_after K.less key.now tip result seats.old }
         ensures tables { Told tip result self.old self.new }
-        ensures counts { Holds seats.old self.old → result ≡ lower_than tip (at less key.now seats.old) }
+        ensures counts { Holds seats.old self.old → result ≡ lower_than tip (at K.less key.now seats.old) }
         ensures holds { Holds seats.old self.old → Holds seats.new self.new }
-        ensures sorted { Sorted less seats.old → Sorted less seats.new }
+        ensures sorted { Sorted K.less seats.old → Sorted K.less seats.new }
     {
         // Return early if the signer is not in the set.
         let Some(i) = seat_of(seats, key) else {

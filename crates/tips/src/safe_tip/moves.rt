@@ -88,7 +88,7 @@ impl SafeTip {
 
     /// Lowers the tip of a seat to 0 if it is a leaver's, one whose key is not among `keys`.
     fn settle<K: Key>(&mut self, seat: &Entry<K, Height>, keys: &[K])
-        ensures { has self.old seat.now.value ≡ true → Moved seat.now.value (settled less keys.now seat.now) self.old self.new }
+        ensures { has self.old seat.now.value ≡ true → Moved seat.now.value (settled K.less keys.now seat.now) self.old self.new }
     {
         if is_among(keys, &seat.key) {
             return;
@@ -100,7 +100,7 @@ impl SafeTip {
 
     /// Lowers the tips of the leavers to 0.
     pub(super) fn lower_leavers<K: Key>(&mut self, seats: &[Entry<K, Height>], keys: &[K])
-        ensures { Recorded tip_of seats.now self.old → Recorded (λ e. (settled less keys.now e).0) seats.now self.new }
+        ensures { Recorded tip_of seats.now self.old → Recorded (λ e. (settled K.less keys.now e).0) seats.now self.new }
     {
         for seat in seats {
             self.settle(seat, keys);

@@ -1,4 +1,4 @@
-use Rattle.std.proofs.Common.{◌+◌, true, false, ◌||◌, drop, sym, ap, ◌∙◌, arith}
+use Rattle.std.proofs.Common.{◌+◌, ◌||◌, drop, sym, ap, ◌∙◌}
 use Rattle.std.proofs.lemmas.List.{at_drop_all}
 use Rattle.tips.specs.Seats.{among}
 use Rattle.tips.proofs.Keyed.{among_step}

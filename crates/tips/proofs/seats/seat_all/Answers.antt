@@ -1,8 +1,7 @@
-use Rattle.std.proofs.Common.{◌≡◌, ◌<◌, length, get_or, take, sym, refl, ap, ◌∙◌, arith}
+use Rattle.std.proofs.Common.{length, sym, refl, ap, ◌∙◌, arith}
 use Rattle.std.proofs.lemmas.List.{take_all}
 use Rattle.types.specs.Numbers.{height}
 use Rattle.table.specs.Rows.{entry}
-use Rattle.tips.specs.Seats.{seated}
 use Rattle.tips.proofs.Keyed.{written-more, written_all, written_at}
 use Rattle.tips.proofs.seats.seat_all.Goals as goal
 

@@ -1,5 +1,5 @@
-use Rattle.std.proofs.Common.{sym, ap, ◌∙◌, arith}
-use Rattle.tips.specs.Counting.{total, more}
+use Rattle.std.proofs.Common.{ap, arith}
+use Rattle.tips.specs.Counting.{total}
 use Rattle.tips.specs.Tables.{rows_of}
 use Rattle.tips.proofs.Tidy.{counted}
 use Rattle.tips.proofs.Shifts.{room}

@@ -1,4 +1,4 @@
-use Rattle.tips.specs.Seats.{tip_of, settled}
+use Rattle.tips.specs.Seats.{tip_of}
 use Rattle.tips.specs.Tips.{Recorded}
 use Rattle.tips.proofs.Leaving.{Halfway}
 use Rattle.tips.proofs.safe_tip.SafeTip.lower_leavers.Given as goal

@@ -1,10 +1,10 @@
-use Rattle.std.proofs.Common.{◌≡◌, sym, ◌∙◌}
+use Rattle.std.proofs.Common.{sym, ◌∙◌}
 use Rattle.tips.proofs.Told.{unknown, too_low, foreign, told}
 use Rattle.tips.proofs.safe_tip.SafeTip.update.Goals as goal
 
-pub returns-in-default : goal.returns-in-default
-returns-in-default g c =
-    let t = unknown g.met.K.Key.order c.args.key.now c.args.seats.now c.args.tip c.args.self.now (sym c.seat-of.ensures.placed ∙ c.in-default.is) in
+pub returns-in_default : goal.returns-in_default
+returns-in_default g c =
+    let t = unknown g.met.K.Key.order c.args.key.now c.args.seats.now c.args.tip c.args.self.now (sym c.seat_of.ensures.placed ∙ c.in_default.is) in
     record { answer = t.answer; seats = t.seats; tables = t.tables; counts = t.counts; holds = t.holds; sorted = t.sorted }
 
 pub returns-then-old-tip : goal.returns-then-old-tip
