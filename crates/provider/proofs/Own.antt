@@ -1,5 +1,5 @@
 -- What the laws give of the own signer. Assumes nothing.
-use Rattle.std.proofs.Common.{◌≡◌, ℕ, true, Some, None, sym, ◌∙◌, subst, arith}
+use Rattle.std.proofs.Common.{◌≡◌, ℕ, true, Some, None, sym, subst, arith}
 use Rattle.provider.specs.Answers.{Answers, Bytes}
 use Rattle.provider.specs.Laws.{Lawful}
 

@@ -1,5 +1,5 @@
 -- What every provider keeps. Assumes nothing.
-use Rattle.std.specs.Prelude.{◌≡◌, ℕ, suc, ◌<◌, ◌≤◌, Bool, true, false, cond, List, [], ◌∷◌, map, length, Some, None, All, Option, nat_lt}
+use Rattle.std.specs.Prelude.{◌≡◌, ℕ, ◌<◌, ◌≤◌, Bool, true, cond, List, [], ◌∷◌, map, length, Some, None, All, Option, nat_lt}
 use Rattle.std.specs.Str.{bytes_eq}
 use Rattle.table.specs.Keys.{lower}
 use Rattle.table.specs.Rows.{onward}
