@@ -1,13 +1,13 @@
 -- A free slot that takes a record, and where each record lies. Assumes nothing.
-use Rattle.std.proofs.Common.{◌≡◌, ℕ, zero, suc, ◌+◌, ◌<◌, ◌≤◌, min, max, Bool, true, false, cond, eqb, ltb, ◌⊎◌, List, [], ◌∷◌, ◌++◌, length, get_or, take, drop, set, Some, None, Option, sym, refl, ap, ◌∙◌, subst, inl, inr, arith, length-take}
+use Rattle.std.proofs.Common.{◌≡◌, ℕ, suc, ◌+◌, ◌<◌, ◌≤◌, max, eqb, List, [], ◌∷◌, ◌++◌, length, get_or, take, drop, set, Some, None, sym, refl, ap, ◌∙◌, subst, inl, inr, arith, length-take}
 use lib.Seq.{set_split, split_at}
-use Rattle.std.proofs.lemmas.Bool.{cond-true, cond-false, cond_both, cases_Bool, eq-eqb, ne_eqb, eqb-true, eqb-false}
-use Rattle.journal.specs.Log.{All, Bytes}
+use Rattle.std.proofs.lemmas.Bool.{cond-true, cond-false, cond_both, cases_Bool, eqb-true, eqb-false}
+use Rattle.journal.specs.Log.{All}
 use Rattle.slots.specs.declared.slot.Slot.{Slot}
 use Rattle.slots.specs.declared.slot.Key.{Key}
 use Rattle.slots.specs.Order.{Cell, key, before, cells, inserted, ordered, order, vacant, highest, after, first_key}
 use Rattle.slots.specs.Value.{body, grouped}
-use Rattle.slots.proofs.Sorting.{Apart, all_map, all-ordered, ordered_middle, rising, all_after}
+use Rattle.slots.proofs.Sorting.{Apart, all_map, all-ordered, ordered_middle, rising}
 use Rattle.slots.proofs.Groups.{stored, grouped-inserted}
 use Rattle.slots.proofs.Pruned.{cells_free, cells_live}
 

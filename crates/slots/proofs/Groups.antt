@@ -1,11 +1,11 @@
 -- Records in reading order as sections: what is true of them, and one record more. Assumes nothing.
-use Rattle.std.proofs.Common.{◌≡◌, ℕ, suc, ◌+◌, ◌<◌, ◌≤◌, min, Bool, true, false, cond, eqb, ltb, ◌⊎◌, List, [], ◌∷◌, ◌++◌, length, take, sym, refl, ap, ◌∙◌, subst, inl, inr, append_assoc, append-nil, arith, length-append, length-take}
+use Rattle.std.proofs.Common.{◌≡◌, ℕ, suc, ◌<◌, ◌≤◌, min, true, false, cond, eqb, ltb, List, [], ◌∷◌, ◌++◌, length, sym, refl, ap, ◌∙◌, subst, inl, inr, append-nil, arith, length-append, length-take}
 use Rattle.std.proofs.lemmas.Bool.{cond-true, cond-false, cond_both, cases_Bool, ltb-true, ltb-false, eqb-true, eqb-false, le-ltb, lt-ltb, eq-eqb, ne_eqb}
-use Rattle.journal.specs.Log.{Bytes, Section, Log, all_of, added, All, Sound, Ascends, Formed, FirmerSection, AllFirmer, Firmer, appended}
+use Rattle.journal.specs.Log.{Bytes, Section, all_of, added, All, Sound, Ascends, Formed, AllFirmer}
 use Rattle.journal.proofs.Firm.{both_cond, section_refl, firmer_refl}
 use Rattle.journal.proofs.Lost.{Solid}
 use Rattle.slots.specs.declared.slot.Slot.{Slot}
-use Rattle.slots.specs.Order.{Cell, key, before, inserted, order}
+use Rattle.slots.specs.Order.{Cell, key, inserted, order}
 use Rattle.slots.specs.Value.{body, joined, grouped, log_of}
 use Rattle.slots.proofs.Keys.{before-section, latest}
 use Rattle.slots.proofs.Sorting.{Later, Rising, here, on, rising, all_map}

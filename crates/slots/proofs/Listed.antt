@@ -1,10 +1,9 @@
 -- Records with their numbers, and the one that is read next. Assumes nothing.
-use Rattle.std.proofs.Common.{◌≡◌, ℕ, zero, suc, ◌+◌, ◌<◌, ◌≤◌, Bool, true, false, cond, eqb, ltb, ◌⊎◌, List, [], ◌∷◌, ◌++◌, Some, None, Option, sym, refl, ap, ◌∙◌, subst, inl, inr, arith}
-use Rattle.std.proofs.lemmas.Bool.{cond-true, cond-false, cond_both, cases_Bool, ltb-true, ltb-false, eqb-true, eqb-false, le-ltb, lt-ltb, eq-eqb, ne_eqb}
-use Rattle.journal.specs.Log.{All, Bytes, Section, Placed, all_of, numbered, reading}
+use Rattle.std.proofs.Common.{◌≡◌, ℕ, suc, ◌<◌, ◌≤◌, Bool, true, false, cond, eqb, ltb, ◌⊎◌, List, [], ◌∷◌, ◌++◌, Some, None, sym, refl, ap, ◌∙◌, inl, inr, arith}
+use Rattle.std.proofs.lemmas.Bool.{cond-true, cond-false, cases_Bool, ltb-true, ltb-false, eqb-true, eqb-false, le-ltb, lt-ltb, eq-eqb, ne_eqb}
+use Rattle.journal.specs.Log.{All, Section, Placed, all_of, numbered, reading}
 use Rattle.journal.specs.Places.{past, past_place, first_of}
 use Rattle.slots.specs.declared.slot.Slot.{Slot}
-use Rattle.slots.specs.declared.slot.Key.{Key}
 use Rattle.slots.specs.Order.{Cell, key, before, gate, after}
 use Rattle.slots.specs.Value.{body, joined, grouped, turn, listed}
 use Rattle.slots.proofs.Groups.{joined_same, joined_other, grouped-more}

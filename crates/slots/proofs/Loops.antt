@@ -1,11 +1,10 @@
 -- One turn of each search. Assumes nothing.
-use Rattle.std.proofs.Common.{◌≡◌, ℕ, zero, suc, ◌+◌, ◌<◌, ◌≤◌, max, true, false, cond, eqb, List, [], ◌∷◌, length, get_or, take, drop, set, Some, None, Option, sym, refl, ap, ◌∙◌, add-one, arith}
+use Rattle.std.proofs.Common.{◌≡◌, ℕ, zero, suc, ◌+◌, ◌<◌, ◌≤◌, max, true, false, cond, eqb, List, [], ◌∷◌, length, get_or, drop, Some, None, Option, sym, refl, ap, ◌∙◌, add-one, arith}
 use Rattle.std.proofs.lemmas.Bool.{cond-true, cond-false, eq-eqb, ne_eqb}
-use Rattle.std.proofs.lemmas.List.{at_drop_more, at_drop_all, set-get_or, set-set}
+use Rattle.std.proofs.lemmas.List.{at_drop_more, at_drop_all}
 use Rattle.slots.specs.declared.slot.Slot.{Slot}
 use Rattle.slots.specs.declared.slot.Key.{Key}
-use Rattle.slots.specs.Value.{blank}
-use Rattle.slots.specs.Stores.{under, freed, freed_at, swept}
+use Rattle.slots.specs.Stores.{freed, freed_at, swept}
 use Rattle.slots.specs.Order.{nearest, near, key_of, vacant, highest, older, aged}
 
 pub nearest-more : (from : Key) (best : Option Key) (xs : List Slot) (i : ℕ) (d : Slot) → i < length xs →
@@ -68,7 +67,3 @@ swept-next s (suc i) (x ∷ xs) h = ap (λ (l : List Slot). freed s x ∷ l) (sw
 -- one slot more is gone through
 pub swept-more : (s i : ℕ) (xs ys : List Slot) → i < length xs → ys ≡ swept s i xs → freed_at s i ys ≡ swept s (i + 1) xs
 swept-more s i xs ys h e = ap (freed_at s i) e ∙ swept-next s i xs h ∙ ap (λ j. swept s j xs) (sym (add-one i))
-
--- a slot that is not below stays
-pub freed-same : (s i : ℕ) (xs : List Slot) → under s (get_or xs i blank) ≡ false → xs ≡ freed_at s i xs
-freed-same s i xs e = sym (ap (set xs i) (cond-false _ _ _ e) ∙ set-get_or xs i blank)

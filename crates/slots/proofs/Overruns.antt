@@ -1,13 +1,12 @@
 -- No store makes an overrun, and a new record leaves the first where it is. Assumes nothing.
-use Rattle.std.proofs.Common.{◌≡◌, ℕ, zero, suc, ◌+◌, ◌<◌, ◌≤◌, max, Bool, true, false, cond, eqb, ltb, ◌⊎◌, List, [], ◌∷◌, ◌++◌, length, get_or, set, Some, None, Option, sym, refl, ap, ◌∙◌, subst, inl, inr, arith}
-use Rattle.std.proofs.lemmas.Bool.{cond-true, cond-false, cond_both, cases_Bool, ltb-true, ltb-false, eqb-true, eqb-false, le-ltb, lt-ltb, eq-eqb, ne_eqb, true≢false}
+use Rattle.std.proofs.Common.{◌≡◌, ℕ, zero, suc, ◌+◌, ◌<◌, ◌≤◌, max, true, false, cond, eqb, ltb, List, [], ◌∷◌, length, get_or, set, Some, None, Option, sym, refl, ap, ◌∙◌, inl, inr, arith}
+use Rattle.std.proofs.lemmas.Bool.{cond-true, cond-false, cond_both, cases_Bool, ltb-true, ltb-false, le-ltb, eq-eqb, ne_eqb, true≢false}
 use Rattle.journal.specs.Log.{All}
 use Rattle.journal.specs.declared.places.Defect.{Defect}
 use Rattle.journal.specs.declared.places.Defect.TheVariants.{Length, Age}
-use Rattle.journal.specs.declared.places.Overrun.{Overrun}
 use Rattle.slots.specs.declared.slot.Slot.{Slot}
 use Rattle.slots.specs.declared.slot.Key.{Key}
-use Rattle.slots.specs.Order.{Cell, key, key_of, before, inserted, order, highest, older, aged}
+use Rattle.slots.specs.Order.{Cell, key, key_of, inserted, order, highest, older, aged}
 use Rattle.slots.specs.Value.{turn, defect, or_on, first_defect, over}
 use Rattle.slots.specs.Stores.{free, under, freed, swept}
 use Rattle.slots.proofs.Keys.{before_self, latest}

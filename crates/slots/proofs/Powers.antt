@@ -1,7 +1,7 @@
 -- How the power runs down. Assumes nothing.
-use Rattle.std.proofs.Common.{◌≡◌, ℕ, zero, suc, ◌+◌, ◌-◌, ◌<◌, ◌≤◌, Bool, true, false, cond, leb, ◌⊎◌, List, [], ◌∷◌, length, get_or, take, drop, Some, None, Option, sym, refl, ap, ◌∙◌, subst, inl, inr, add-one, arith}
-use Rattle.std.proofs.lemmas.List.{take_more, take_all}
-use Rattle.std.proofs.lemmas.Bool.{leb-true, leb-false, le-leb, lt-leb, cond-true, cond-false, cases_Bool}
+use Rattle.std.proofs.Common.{◌≡◌, ℕ, zero, suc, ◌+◌, ◌-◌, ◌<◌, ◌≤◌, true, false, cond, List, [], ◌∷◌, length, get_or, take, Some, None, Option, sym, refl, ap, ◌∙◌, add-one, arith}
+use Rattle.std.proofs.lemmas.List.{take_all}
+use Rattle.std.proofs.lemmas.Bool.{leb-true, leb-false, le-leb, lt-leb}
 use Rattle.slots.specs.declared.slot.Slot.{Slot}
 use Rattle.slots.specs.Value.{blank}
 use Rattle.slots.specs.Stores.{lasts, spent, under, unders, freed_at, swept}
@@ -14,13 +14,6 @@ lasts_zero (Some k) = sym (le-leb 0 k (omega arith))
 pub spent_zero : (p : Option ℕ) → p ≡ spent 0 p
 spent_zero None = refl
 spent_zero (Some k) = let e : k ≡ k - 0 = omega arith in ap (λ (n : ℕ). Some n) e
-
--- where there is nothing to store
-pub lasts_none : (b : Bool) (p : Option ℕ) → b ≡ false → true ≡ lasts (cond b 1 0) p
-lasts_none b p e = lasts_zero p ∙ ap (λ n. lasts n p) (sym (cond-false b 1 0 e))
-
-pub spent_none : (b : Bool) (p : Option ℕ) → b ≡ false → p ≡ spent (cond b 1 0) p
-spent_none b p e = spent_zero p ∙ ap (λ n. spent n p) (sym (cond-false b 1 0 e))
 
 -- stores one after the other
 lasts-sum : (m n : ℕ) (p : Option ℕ) → lasts m p ≡ true → lasts n (spent m p) ≡ true → lasts (m + n) p ≡ true

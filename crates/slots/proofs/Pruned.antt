@@ -1,16 +1,16 @@
 -- Records in reading order after some are freed. Assumes nothing.
-use Rattle.std.proofs.Common.{◌≡◌, ℕ, zero, suc, ◌+◌, ◌<◌, ◌≤◌, Bool, true, false, cond, eqb, ltb, leb, ◌⊎◌, List, [], ◌∷◌, ◌++◌, map, length, take, drop, sym, refl, ap, ◌∙◌, subst, inl, inr, append-nil, arith}
+use Rattle.std.proofs.Common.{◌≡◌, ℕ, zero, suc, ◌+◌, ◌<◌, ◌≤◌, Bool, true, false, cond, eqb, ltb, leb, List, [], ◌∷◌, map, sym, refl, ap, ◌∙◌, subst, inl, inr, arith}
 use Rattle.std.proofs.lemmas.Bool.{cond-true, cond-false, cond_both, cases_Bool, ltb-true, ltb-false, eqb-true, eqb-false, le-ltb, lt-ltb, eq-eqb, ne_eqb, le-leb, lt-leb, true≢false}
-use Rattle.journal.specs.Log.{Bytes, Section, Log, all_of, from, All, Ascends}
-use Rattle.journal.specs.Cuts.{SomeOf, Left, kept, AllLeft, Cut}
-use Rattle.journal.proofs.Leaves.{left-ascends, left-some, ascends-lower}
+use Rattle.journal.specs.Log.{Bytes, Section, all_of, from, All, Ascends}
+use Rattle.journal.specs.Cuts.{SomeOf, Left, kept, AllLeft}
+use Rattle.journal.proofs.Leaves.{left-ascends, left-some}
 use Rattle.slots.specs.declared.slot.Slot.{Slot}
 use Rattle.slots.specs.Order.{Cell, key, before, cells, inserted, ordered, order}
 use Rattle.slots.specs.Value.{body, joined, grouped}
-use Rattle.slots.specs.Stores.{free, under, freed, swept}
+use Rattle.slots.specs.Stores.{free, freed, swept}
 use Rattle.slots.proofs.Keys.{before-section, before-trans}
-use Rattle.slots.proofs.Sorting.{Later, Apart, Rising, here, on, rising, rising-inserted, all_map, all-ordered, cells-from, cells_apart, later_first}
-use Rattle.slots.proofs.Groups.{lone, Head, head-joined, joined_same, joined_other, joined_fresh, grouped-more, ascends-grouped, head-grouped}
+use Rattle.slots.proofs.Sorting.{Later, Rising, here, on, rising-inserted, all_map, all-ordered, cells-from, cells_apart, later_first}
+use Rattle.slots.proofs.Groups.{lone, Head, joined_same, joined_other, joined_fresh, grouped-more, ascends-grouped, head-grouped}
 
 unfoldable pub keep : (Cell → Bool) → List Cell → List Cell
 keep p [] = []

@@ -1,10 +1,10 @@
 -- Records in reading order: what is added, kept and found there. Assumes nothing.
-use Rattle.std.proofs.Common.{◌≡◌, ℕ, suc, ◌+◌, ◌<◌, ◌≤◌, Bool, true, false, cond, eqb, ltb, ◌⊎◌, List, [], ◌∷◌, ◌++◌, length, Some, None, Option, sym, refl, ap, ◌∙◌, subst, inl, inr, append_assoc, append-nil, arith}
+use Rattle.std.proofs.Common.{◌≡◌, ℕ, suc, ◌<◌, ◌≤◌, true, false, cond, eqb, List, [], ◌∷◌, ◌++◌, Some, None, Option, sym, refl, ap, ◌∙◌, subst, inl, inr, append_assoc, append-nil, arith}
 use Rattle.std.proofs.lemmas.Bool.{cond-true, cond-false, cond_both, cases_Bool}
 use Rattle.journal.specs.Log.{All}
 use Rattle.slots.specs.declared.slot.Slot.{Slot}
 use Rattle.slots.specs.declared.slot.Key.{Key}
-use Rattle.slots.specs.Order.{Cell, key, key_of, before, cells, inserted, ordered, order, after, first_key, near, nearer, nearest}
+use Rattle.slots.specs.Order.{Cell, key, before, cells, inserted, ordered, order, after, first_key, near, nearer, nearest}
 use Rattle.slots.proofs.Keys.{before-trans, before_asym, before_self, before-total}
 
 pub all_map : {X : Type 0} (P Q : X → Type 0) → ((x : X) → P x → Q x) → (xs : List X) → All P xs → All Q xs

@@ -1,13 +1,13 @@
 -- What the stores of an operation do to the value. Assumes nothing.
-use Rattle.std.proofs.Common.{◌≡◌, ℕ, ◌+◌, ◌<◌, ◌≤◌, max, Bool, true, false, cond, ◌&&◌, leb, ◌⊎◌, List, [], ◌∷◌, map, length, get_or, set, Some, None, Ok, Err, Option, Result, sym, refl, ap, ◌∙◌, subst, inl, inr, arith}
+use Rattle.std.proofs.Common.{◌≡◌, ℕ, ◌<◌, ◌≤◌, max, true, false, ◌&&◌, leb, List, [], ◌∷◌, map, length, set, None, Ok, Err, Result, sym, refl, ap, ◌∙◌, subst, inl, inr, arith}
 use Rattle.std.proofs.lemmas.Bool.{and_from, and_left, and_right, le-leb, lt-leb, le-ltb, cond-false}
-use Rattle.journal.specs.Log.{Bytes, Section, Log, appended, added, from, pruned, AllFirmer, Firmer}
+use Rattle.journal.specs.Log.{Bytes, appended, added, from, pruned, AllFirmer, Firmer}
 use Rattle.journal.specs.Cuts.{AllLeft, Cut}
 use Rattle.journal.proofs.Firm.{firmer_refl}
 use Rattle.journal.proofs.Lost.{lost_cut}
 use Rattle.slots.specs.declared.slot.Slot.{Slot}
 use Rattle.slots.specs.declared.vacancies.Vacancy.{Vacancy}
-use Rattle.slots.specs.Order.{Cell, order, vacant, highest}
+use Rattle.slots.specs.Order.{order, highest}
 use Rattle.slots.specs.Value.{body, blank, grouped, log_of, space, over}
 use Rattle.slots.specs.Stores.{Holds, freed, swept, Sweeping}
 use Rattle.slots.specs.Vacancies.{NoRoom, Room, Adding, bound_after}
@@ -18,7 +18,7 @@ use Rattle.slots.proofs.Sorting.{rising}
 use Rattle.slots.proofs.Groups.{stored, firmer_stored, solid_grouped, formed_log}
 use Rattle.slots.proofs.Added.{grouped-set, vacant-at}
 use Rattle.slots.proofs.Overruns.{over-set, over-swept}
-use Rattle.slots.proofs.Pruned.{keep, above, stays, order-freed, order-swept, grouped-from, grouped-left}
+use Rattle.slots.proofs.Pruned.{keep, stays, order-freed, order-swept, grouped-from, grouped-left}
 
 -- a record in a free slot is the value with it appended
 pub store_step : (bound s : ℕ) (b : Bytes) (v : Vacancy) (y : Slot) (xs : List Slot) → Room v xs → Holds s v.age b y →

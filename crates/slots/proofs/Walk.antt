@@ -1,9 +1,9 @@
 -- One step of going through the records in reading order. Assumes nothing.
-use Rattle.std.proofs.Common.{◌≡◌, ℕ, suc, ◌+◌, ◌<◌, ◌≤◌, Bool, true, false, cond, eqb, ◌⊎◌, List, [], ◌∷◌, length, get_or, Some, None, Option, sym, refl, ap, ◌∙◌, subst, inl, inr, arith}
-use Rattle.journal.specs.Log.{All, Placed}
+use Rattle.std.proofs.Common.{◌≡◌, ℕ, suc, ◌+◌, ◌<◌, ◌≤◌, Bool, true, false, cond, eqb, List, [], ◌∷◌, length, get_or, Some, None, sym, refl, ap, ◌∙◌, subst, inl, arith}
+use Rattle.journal.specs.Log.{All}
 use Rattle.slots.specs.declared.slot.Slot.{Slot}
 use Rattle.slots.specs.declared.slot.Key.{Key}
-use Rattle.slots.specs.Order.{Cell, key, before, gate, order, after, first_key, nearest, aged}
+use Rattle.slots.specs.Order.{Cell, key, before, gate, order, after, nearest, aged}
 use Rattle.journal.specs.declared.places.Defect.{Defect}
 use Rattle.slots.specs.Value.{body, listed, at_place, turn, flaw, defect, first_defect, over}
 use Rattle.slots.proofs.Overruns.{defect_pass, defect-found, defect_none}
@@ -11,7 +11,7 @@ use Rattle.journal.specs.Places.{past_place, first_of}
 use Rattle.std.proofs.lemmas.Bool.{cond-true}
 use Rattle.slots.proofs.Keys.{before-section}
 use Rattle.slots.proofs.Sorting.{nearest_is, rising, all_map, all_after, after_step}
-use Rattle.slots.proofs.Added.{Found, found, found_none, Lying, order_lies, length-order, length-after}
+use Rattle.slots.proofs.Added.{found, found_none, Lying, order_lies, length-order, length-after}
 use Rattle.slots.specs.Value.{blank}
 use Rattle.slots.proofs.Listed.{gate_open, listed-first, listed_none, past-gate, past_on, past_later, past-here, past_none}
 

@@ -1,5 +1,5 @@
 -- What a list of slots is worth as a journal. Assumes nothing.
-use Rattle.std.specs.Prelude.{ℕ, suc, ◌+◌, ◌^◌, min, Bool, true, false, cond, List, [], ◌∷◌, ◌++◌, take, is_some, Some, None, Option, ◌==◌, nat_lt, slice_index_or}
+use Rattle.std.specs.Prelude.{ℕ, suc, ◌+◌, ◌^◌, min, Bool, true, false, cond, List, [], ◌∷◌, take, is_some, Some, None, Option, ◌==◌, nat_lt, slice_index_or}
 use Rattle.journal.specs.Log.{Bytes, Section, Log, Placed}
 use Rattle.journal.specs.Steps.{Disk}
 use Rattle.journal.specs.declared.places.Defect.{Defect}

@@ -1,5 +1,5 @@
 use Rattle.std.proofs.Common.{refl}
-use Rattle.slots.specs.Value.{disk_of, log_of}
+use Rattle.slots.specs.Value.{log_of}
 use Rattle.slots.specs.Order.{order}
 use Rattle.journal.proofs.Lost.{solid_cut}
 use Rattle.slots.proofs.Groups.{solid_grouped, formed_log}

@@ -1,5 +1,4 @@
-use Rattle.std.proofs.Common.{max, sym, arith}
-use Rattle.journal.specs.Cuts.{Cut}
+use Rattle.std.proofs.Common.{sym, arith}
 use Rattle.slots.proofs.Steps.{freed_step, freed-over, swept_step, swept-over}
 use Rattle.slots.proofs.SlotJournalJournal.prune.Goals as goal
 
@@ -8,8 +7,8 @@ returns-then-not-freed c =
     let j = c.args.self.now in
     let w = c.if-not-freed.ensures in
     record {
-      step = swept_step j.bound c.args.section j.slots.now c.free-below-freed.new.slots w.freed;
-      overruns = swept-over c.args.section j.slots.now c.free-below-freed.new.slots w.freed;
+      step = swept_step j.bound c.args.section j.slots.now c.free_below-freed.new.slots w.freed;
+      overruns = swept-over c.args.section j.slots.now c.free_below-freed.new.slots w.freed;
       power = (sym w.answer, w.left);
     }
 
@@ -18,7 +17,7 @@ returns c =
     let j = c.args.self.now in
     let w = c.if-not-freed.ensures in
     record {
-      step = freed_step j.bound c.max-self.result c.args.section j.slots.now c.free-below-freed.new.slots (omega (arith, c.max-self.ensures)) w.freed;
-      overruns = freed-over c.args.section j.slots.now c.free-below-freed.new.slots w.freed;
+      step = freed_step j.bound c.max-self.result c.args.section j.slots.now c.free_below-freed.new.slots (omega (arith, c.max-self.ensures)) w.freed;
+      overruns = freed-over c.args.section j.slots.now c.free_below-freed.new.slots w.freed;
       power = (sym w.answer, w.left);
     }

@@ -13,7 +13,7 @@ unfolding beyond
 from_place after p l e = ap (λ a. first_of (beyond a l)) (sym e)
 
 pub returns-in-None : goal.returns-in-None
-returns-in-None c = c.first-record.ensures ∙ from_start c.args.after _ c.in-None.is
+returns-in-None c = c.first_record.ensures ∙ from_start c.args.after _ c.in-None.is
 
 pub returns-in-Some : goal.returns-in-Some
-returns-in-Some c = c.record-past.ensures ∙ from_place c.args.after c.in-Some.place _ c.in-Some.is
+returns-in-Some c = c.record_past.ensures ∙ from_place c.args.after c.in-Some.place _ c.in-Some.is

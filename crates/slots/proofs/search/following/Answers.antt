@@ -1,5 +1,5 @@
-use Rattle.std.proofs.Common.{◌≡◌, ◌+◌, get_or, drop, sym, ap, ◌∙◌}
-use Rattle.slots.specs.Order.{nearest, near, key_of}
+use Rattle.std.proofs.Common.{◌+◌, drop, sym, ap, ◌∙◌}
+use Rattle.slots.specs.Order.{nearest, near}
 use Rattle.slots.specs.Value.{blank}
 use Rattle.slots.proofs.Loops.{nearest_on, nearest_skip, nearest-all}
 use Rattle.slots.proofs.search.following.Goals as goal
