@@ -1,9 +1,8 @@
 -- What the forms promise, as the law takes it. Assumes nothing.
-use Rattle.std.proofs.Common.{◌≡◌, ℕ, ◌^◌, ◌<◌, ◌≤◌, Ok, All, ap, arith}
-use Rattle.forms.specs.Values.{Ack, Cert, Activity, ack, certified, tip, TipAck}
+use Rattle.std.proofs.Common.{ap, arith}
+use Rattle.forms.specs.Values.{Activity, ack, certified, tip}
 use Rattle.forms.specs.Reading as forms
 use Rattle.forms.specs.Sizes.{Sized}
-use Rattle.forms.specs.Writing.{write}
 use Rattle.forms_laws.proofs.RoundTrip.{record_back, one-message}
 use Rattle.rules.specs.Promises.{Promises}
 use Rattle.rules.proofs.Ledger.{Small}

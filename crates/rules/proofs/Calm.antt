@@ -1,20 +1,20 @@
 -- The rules leave the caller's slips alone. Assumes nothing.
-use Rattle.std.proofs.Common.{◌≡◌, ℕ, zero, suc, ◌+◌, ◌^◌, Bool, true, false, cond, not, ◌&&◌, ◌||◌, eqb, ltb, leb, List, [], ◌∷◌, ◌++◌, map, length, Some, None, Ok, Err, Option, Result, refl}
-use Rattle.rules.proofs.Flow.{Plain, Calm, calm_append}
-use Rattle.forms.specs.Values.{certified, Ack, Cert, Activity, TipAck}
+use Rattle.std.proofs.Common.{◌≡◌, ℕ, zero, suc, ◌+◌, Bool, true, false, cond, not, ◌&&◌, ◌||◌, eqb, ltb, leb, List, [], ◌∷◌, ◌++◌, map, length, Some, None, Ok, Err, Option, Result, refl}
+use Rattle.rules.proofs.Flow.{Calm, calm_append}
+use Rattle.forms.specs.Values.{Ack, Cert, Activity, TipAck}
 use Rattle.forms.specs.Reading as forms
 use Rattle.journal.specs.declared.places.Overrun.{Overrun}
 use Rattle.forms.specs.declared.faults.Fault.{Fault}
 use Rattle.journal.specs.Log.{Log, Placed, reading}
 use Rattle.provider.specs.Answers.{Answers}
-use Rattle.rules.specs.Acts.{Act, tell, sync_all, read}
+use Rattle.rules.specs.Acts.{tell, sync_all, read}
 use Rattle.rules.specs.Calls.{refused_late, plan_due, plan_closing}
-use Rattle.rules.specs.Lists.{those, opt, front, placed}
-use Rattle.rules.specs.Message.{hearing, seat_told, counts, safe_tip, epoch_refusal, in_epoch, refused_short, too_high, plan_epoch, tip_told, to_safe_tip, ack_told, checked, blocked, plan_message, plan_told, undecoded}
-use Rattle.rules.specs.Opening.{found_refusal, opening_refusal, by_reading, open_with, open_from, plan_opening, late, unreadable, at_end, before}
-use Rattle.rules.specs.Plans.{runs, closes, After, stays, Answer, Plan, refuse, or_refuse, refusal, carry, ok}
-use Rattle.rules.specs.Rules.{announced, recorded, signing, sending, with_cert, first_free, Work, idle, then, move, certify, assembled, agreeing, counted, store, with_acks, own_ack, restore_from, restore, cleared, sign_and_send, digest_for, rebroadcast, signed, due_at, with_deadlines, keys, attested}
-use Rattle.rules.specs.State.{Bytes, Settings, Mem, Desk, Engine, shut, running, halted, is_pending, is_certified, pending_at, ack_of, differs, ack_below}
+use Rattle.rules.specs.Lists.{those, opt, front}
+use Rattle.rules.specs.Message.{hearing, seat_told, counts, safe_tip, epoch_refusal, in_epoch, refused_short, too_high, plan_epoch, tip_told, to_safe_tip, ack_told, checked, blocked, plan_message, plan_told}
+use Rattle.rules.specs.Opening.{found_refusal, opening_refusal, by_reading, open_with, open_from, plan_opening, unreadable, at_end, before}
+use Rattle.rules.specs.Plans.{runs, closes, After, stays, Answer, Plan, refuse, or_refuse, carry, ok}
+use Rattle.rules.specs.Rules.{announced, signing, sending, with_cert, first_free, Work, idle, then, move, certify, assembled, agreeing, counted, store, own_ack, restore_from, restore, cleared, sign_and_send, digest_for, rebroadcast, due_at, with_deadlines, keys, attested}
+use Rattle.rules.specs.State.{Bytes, Settings, Mem, Desk, Engine, is_pending, is_certified, pending_at, ack_of, differs}
 use Rattle.std.specs.Str.{bytes_eq}
 use Rattle.tips.specs.Faults.{quorum}
 

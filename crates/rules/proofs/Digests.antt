@@ -1,29 +1,29 @@
 -- A digest and a rebroadcast keep the invariant. Assumes nothing.
-use Rattle.std.proofs.Common.{◌≡◌, ℕ, ◌+◌, ◌-◌, ◌^◌, ◌<◌, ◌≤◌, Bool, true, false, cond, not, ◌&&◌, eqb, ◌⊎◌, List, [], ◌∷◌, ◌++◌, map, length, Some, None, Option, sym, refl, ap, ◌∙◌, subst, inl, inr, arith, eqb-true}
+use Rattle.std.proofs.Common.{◌≡◌, ℕ, ◌+◌, ◌^◌, ◌<◌, ◌≤◌, Bool, true, cond, ◌&&◌, eqb, List, [], ◌∷◌, length, Some, None, Option, sym, refl, ap, ◌∙◌, subst, inl, inr, arith, eqb-true}
 use mathlib.Core.List.Memᴰ
 use mathlib.Core.List.{Memᴰ}
 use borrow.Author.Tests.{eqb-false}
 use Rattle.std.proofs.lemmas.Bool.{cond_both, and_parts}
-use Rattle.forms.specs.Values.{Ack, Cert, Activity, ack, certified, tip}
+use Rattle.forms.specs.Values.{Ack, ack}
 use Rattle.journal.specs.Log.{Log, Bytes}
 use Rattle.provider.specs.Answers.{Answers}
 use Rattle.provider.specs.Laws.{Lawful}
 use Rattle.rules.specs.Lists.{those, opt, highest}
-use Rattle.rules.specs.State.{Pending, Settings, Mem, low, pending_at, is_pending, ack_of}
-use Rattle.rules.specs.Acts.{Act, send, sign}
-use Rattle.rules.specs.Rules.{own, Work, idle, then, store, own_ack, signing, sending, due_at, restore, verified, cleared, sign_and_send, digest_for, rebroadcast}
+use Rattle.rules.specs.State.{Pending, Settings, Mem, pending_at, is_pending, ack_of}
+use Rattle.rules.specs.Acts.{Act}
+use Rattle.rules.specs.Rules.{own, idle, then, store, own_ack, signing, sending, due_at, restore, cleared, sign_and_send, digest_for, rebroadcast}
 use Rattle.rules.proofs.Grow.{high_map}
 use Rattle.rules.proofs.Members.{those_in, map_in_lem, first_in}
 use Rattle.rules.proofs.Recs.{dur_in}
-use Rattle.rules.proofs.Wp.{WP, wp_more, wp_then, wp_three}
-use Rattle.rules.proofs.Ledger.{SizedAck, Own, Rec, RecD, Passed, Out, ShownBy, JInv}
+use Rattle.rules.proofs.Wp.{WP, wp_more, wp_three}
+use Rattle.rules.proofs.Ledger.{SizedAck, Own, Rec, Out, JInv}
 use Rattle.rules.proofs.Entries.{Back}
-use Rattle.rules.proofs.Memory.{Core, core, end, SizedDigest, Sourced, Inv, Step, rest, sourced_on, not_passed}
+use Rattle.rules.proofs.Memory.{core, end, SizedDigest, Inv, sourced_on, not_passed}
 use Rattle.rules.proofs.Moves.{Fresh, Signed, to_sign, to_send, apart}
-use Rattle.rules.proofs.Keeps.{opt_both, Does, Ends, does_idle, does_ends, ends_then, storing, restoring}
+use Rattle.rules.proofs.Keeps.{opt_both, Ends, ends_then, storing, restoring}
 
 pub high_of : {A : Type 0} (f : A → ℕ) (n : ℕ) (x : A) (l : List A) → Memᴰ x l → f x ≤ highest f n l
-high_of f n x [] m = absurd (Memᴰ.not_nil m)
+high_of f n x [] m = absurd (Memᴰ.not-nil m)
 high_of f n x (y ∷ l) (Memᴰ.head e) = let q = ap f e in omega arith
 high_of f n x (y ∷ l) (Memᴰ.tail m) = let i = high_of f n x l m in omega arith
 

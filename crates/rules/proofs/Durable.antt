@@ -1,29 +1,27 @@
 -- Whatever is told is durable when it is told. Assumes nothing.
-use Rattle.std.proofs.Common.{◌≡◌, ℕ, zero, suc, ◌+◌, ◌^◌, Bool, true, false, cond, not, ◌&&◌, ◌||◌, eqb, ltb, leb, ◌⊎◌, List, [], ◌∷◌, ◌++◌, map, length, Some, None, Ok, Err, Option, sym, refl, ap, ◌∙◌, subst, inl, inr}
+use Rattle.std.proofs.Common.{◌≡◌, ℕ, zero, suc, ◌+◌, not, ◌&&◌, ◌||◌, eqb, ltb, leb, List, [], ◌∷◌, ◌++◌, map, length, Some, None, Option, sym, refl, ◌∙◌, subst, inl, inr}
 use mathlib.Core.List.Memᴰ
 use mathlib.Core.List.{Memᴰ}
 use Rattle.std.specs.Str.{bytes_eq}
-use Rattle.forms.specs.Values.{Ack, Cert, Activity, TipAck, ack, certified, tip}
+use Rattle.forms.specs.Values.{Ack, Cert, Activity, TipAck, certified, tip}
 use Rattle.forms.specs.Reading as forms
 use Rattle.forms.specs.Writing.{write}
 use Rattle.tips.specs.Faults.{quorum}
 use Rattle.journal.specs.Log.{Log, Section, Placed, reading, appended, synced, all_synced}
 use Rattle.provider.specs.Answers.{Answers}
-use Rattle.provider.specs.Laws.{Lawful}
-use Rattle.rules.specs.Lists.{those, opt, front}
+use Rattle.rules.specs.Lists.{those}
 use Rattle.rules.specs.State.{Bytes, Settings, Mem, Desk, Engine, shut, running, halted, section, is_pending, is_certified, pending_at, ack_of, differs}
-use Rattle.rules.specs.Acts.{Act, tell, sync_all, read, take_back, lodge, in_log}
+use Rattle.rules.specs.Acts.{Act, tell, sync_all, take_back, lodge, in_log}
 use Rattle.rules.specs.Rules.{announced, signing, sending, with_cert, first_free, Work, idle, then, move, certify, assembled, agreeing, counted, store, own_ack, restore_from, restore, cleared, sign_and_send, digest_for, rebroadcast, due_at, with_deadlines, keys, attested}
 use Rattle.rules.specs.Plans.{Event, opening, epoch_change, message, taking, fetching, handing_back, cancelling, lodging, due, closing, Answer, Plan, refuse, or_refuse, carry, closes, ok}
-use Rattle.rules.specs.Opening.{found_refusal, opening_refusal, open_with, open_from, plan_opening, unreadable, before}
-use Rattle.rules.specs.Message.{hearing, seat_told, counts, safe_tip, epoch_refusal, in_epoch, refused_short, too_high, plan_epoch, tip_told, to_safe_tip, ack_told, checked, blocked, plan_message, plan_told}
-use Rattle.rules.specs.Calls.{plan, refused_late, plan_due, plan_closing, take_first, fetch_first, taken_back, plan_digest, plan_cancel, put_by, counted_back}
-use Rattle.rules.specs.Runs.{Sys, Run, Deed}
+use Rattle.rules.specs.Opening.{found_refusal, opening_refusal, open_with, open_from, plan_opening, before}
+use Rattle.rules.specs.Message.{hearing, seat_told, counts, safe_tip, epoch_refusal, in_epoch, refused_short, too_high, plan_epoch, tip_told, to_safe_tip, ack_told, checked, plan_message, plan_told}
+use Rattle.rules.specs.Calls.{plan, refused_late, plan_due, plan_closing, take_first, fetch_first, taken_back, plan_digest, put_by, counted_back}
 use Rattle.rules.specs.Limits.{height_in, Readable}
-use Rattle.rules.specs.Durable.{Durable, Safe, ToldSafely, ToldDurable}
+use Rattle.rules.specs.Durable.{Durable, ToldSafely, ToldDurable}
 use Rattle.rules.proofs.Calm.{by_cond, by_opt, by_front, by_read}
 use Rattle.rules.proofs.Members.{those_in}
-use Rattle.rules.proofs.Recs.{Has, In, Dur, new-appended, new-synced, new-all, reading_in}
+use Rattle.rules.proofs.Recs.{Has, In, new-appended, new-synced, new-all, reading_in}
 use Rattle.rules.proofs.Events.{read_both}
 use Rattle.rules.proofs.Limits.{records_fit}
 
@@ -207,7 +205,7 @@ module _ (s : Settings) where
       o_plan x = go (opening_refusal p s x e now)
         where
           go : (n : ℕ) → ToldSafely s (or_refuse n (open_from p s e now room [] None (those (before None) (reading v.sections)))).acts v
-          go zero = o_from [] (those (before None) (reading v.sections)) (λ x n. absurd (Memᴰ.not_nil n)) (λ r n. (those_in (before None) r (reading v.sections) n).0)
+          go zero = o_from [] (those (before None) (reading v.sections)) (λ x n. absurd (Memᴰ.not-nil n)) (λ r n. (those_in (before None) r (reading v.sections) n).0)
           go (suc n) = tt
 
     told : (x : Engine) (v : Log) → ((r : Placed) → Memᴰ r (reading v.sections) → Readable s r) → (e : Event) → ToldSafely s (plan p s x v None e).acts v

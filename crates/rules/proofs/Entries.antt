@@ -1,16 +1,15 @@
 -- A record more, a certificate told, an ack shown: what keeps the journal's invariant. Assumes nothing.
-use Rattle.std.proofs.Common.{◌≡◌, ℕ, ◌<◌, Bool, true, false, ◌⊎◌, List, [], ◌∷◌, ◌++◌, Ok, Err, sym, refl, ap, ◌∙◌, subst, inl, inr, arith}
+use Rattle.std.proofs.Common.{◌≡◌, ℕ, Bool, true, ◌⊎◌, List, [], ◌∷◌, ◌++◌, Ok, sym, ap, ◌∙◌, subst, inl, inr, arith}
 use mathlib.Core.List.Memᴰ
-use mathlib.Core.List.{Memᴰ}
 use Rattle.forms.specs.Values.{Ack, Cert, Activity, ack, certified, tip}
 use Rattle.forms.specs.Reading as forms
 use Rattle.forms.specs.Writing.{write}
-use Rattle.journal.specs.Log.{Log, Bytes, appended, synced}
+use Rattle.journal.specs.Log.{Log, Bytes, appended}
 use Rattle.provider.specs.Answers.{Answers}
-use Rattle.rules.specs.State.{Settings, low}
+use Rattle.rules.specs.State.{Settings}
 use Rattle.rules.specs.Acts.{Act, tell, send}
-use Rattle.rules.proofs.Recs.{In, Dur, dur_in, in_appended, dur_appended, new-appended, appended_in}
-use Rattle.rules.proofs.Ledger.{Small, height_of_lem, loud, further, latest, Own, Source, place, Rec, RecD, Passed, Stands, ShownBy, Out, BackedBy, JInv, source_on}
+use Rattle.rules.proofs.Recs.{Dur, dur_in, dur_appended, appended_in}
+use Rattle.rules.proofs.Ledger.{Small, Own, Source, place, Rec, RecD, Passed, Stands, ShownBy, Out, JInv, source_on}
 
 -- what is written is read back
 abbrev pub Back : Type 0

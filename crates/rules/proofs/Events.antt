@@ -1,36 +1,36 @@
 -- Fill, epoch change, message, slips, due and closing keep the invariant. Assumes nothing.
-use Rattle.std.proofs.Common.{◌≡◌, ℕ, zero, suc, ◌+◌, ◌-◌, ◌^◌, ◌<◌, ◌≤◌, Bool, true, false, cond, not, ◌&&◌, ◌||◌, eqb, ltb, leb, ◌⊎◌, List, [], ◌∷◌, ◌++◌, map, length, get_or, is_some, Some, None, Ok, Err, All, Option, Result, sym, refl, ap, ◌∙◌, subst, inl, inr, arith, ltb-false, ltb-true, eqb-true, leb-false}
+use Rattle.std.proofs.Common.{◌≡◌, ℕ, zero, suc, ◌+◌, ◌-◌, ◌^◌, ◌<◌, ◌≤◌, Bool, true, false, cond, ◌||◌, eqb, ltb, ◌⊎◌, List, [], ◌∷◌, ◌++◌, length, get_or, is_some, Some, None, Ok, Err, Option, Result, sym, refl, ap, ◌∙◌, subst, inl, inr, arith, ltb-false, ltb-true, eqb-true, leb-false, All}
+use Rattle.std.specs.List.{AllByRecursion}
 use mathlib.Core.List.Memᴰ
 use mathlib.Core.List.{Memᴰ}
 use Rattle.std.proofs.lemmas.Slice.Eq.{bytes_eq-Decides}
-use Rattle.std.proofs.lemmas.Bool.{cond_both, or_parts, not-false, cases_order, cases_lt}
+use Rattle.std.proofs.lemmas.Bool.{cond_both, or_parts, not-false}
 use Rattle.std.specs.Str.{bytes_eq}
 use Rattle.table.specs.Rows.{onward}
 use Rattle.forms.specs.declared.faults.Fault.{Fault}
 use Rattle.forms.specs.Values.{Ack, Cert, Activity, ack, certified, tip, TipAck}
 use Rattle.forms.specs.Reading as forms
-use Rattle.tips.specs.Faults.{faults}
 use Rattle.journal.specs.Log.{Log, Bytes, Firmer, all_synced}
 use Rattle.provider.specs.Answers.{Answers}
 use Rattle.provider.specs.Laws.{Lawful, position}
-use Rattle.rules.specs.Lists.{those, first, any, opt, front, highest}
-use Rattle.rules.specs.State.{Seat, Pending, Deadline, Settings, Mem, Desk, low, is_pending, next}
+use Rattle.rules.specs.Lists.{first, opt, front, highest}
+use Rattle.rules.specs.State.{Seat, Pending, Deadline, Settings, Mem, Desk, is_pending, next}
 use Rattle.rules.specs.Acts.{Act, sync_all, block, hand_out, take_back, lodge, fetch, hear, sign}
-use Rattle.rules.specs.Rules.{keys, own, Work, idle, then, move, store, fill_by, fill, with_deadlines, digest_for, rebroadcast}
-use Rattle.rules.specs.Plans.{After, stays, runs, closes, Plan, Answer, ok, slip, refused, bad_message, refuse, carry, refusal, or_refuse}
-use Rattle.rules.specs.Opening.{late, known, keys_of, outside, by_reading}
-use Rattle.rules.specs.Message.{seat_tip, in_epoch, epoch_tests, epoch_refusal, plan_epoch, counts, safe_tip, seat_told, to_safe_tip, tip_told, is_at, checks, checked, blocked, hearing, ack_told, ack_answer, refused_short, too_high, told, plan_told, undecoded, plan_message}
-use Rattle.rules.specs.Calls.{with_wanted, take_first, plan_taking, fetch_first, plan_fetching, put_by, refused_late, taken_back, plan_digest, plan_cancel, plan_due, plan_closing}
+use Rattle.rules.specs.Rules.{keys, Work, idle, then, move, store, fill_by, fill, with_deadlines, digest_for, rebroadcast}
+use Rattle.rules.specs.Plans.{After, stays, runs, closes, Plan, Answer, ok, refused, refuse, carry, refusal, or_refuse}
+use Rattle.rules.specs.Opening.{known, keys_of, by_reading}
+use Rattle.rules.specs.Message.{seat_tip, in_epoch, epoch_tests, epoch_refusal, plan_epoch, counts, safe_tip, seat_told, to_safe_tip, tip_told, is_at, checks, checked, ack_told, ack_answer, refused_short, too_high, told, plan_told, undecoded, plan_message}
+use Rattle.rules.specs.Calls.{take_first, fetch_first, put_by, refused_late, taken_back, plan_digest, plan_cancel, plan_due, plan_closing}
 use Rattle.rules.specs.Promises.{OwnKey}
 use Rattle.rules.proofs.Grow.{high_base}
 use Rattle.rules.proofs.Members.{those_in, map_in_lem, first_in}
-use Rattle.rules.proofs.Recs.{in_all, all_in, new-all, dur_in, firmer_in, dur_firmer, in_firmer}
-use Rattle.rules.proofs.Wp.{WP, wp_more, wp_then}
-use Rattle.rules.proofs.Ledger.{SizedAck, loud, further, latest, Own, Rec, RecD, Passed, JInv, hush, less, firmer}
+use Rattle.rules.proofs.Recs.{all_in, new-all, dur_in, firmer_in, dur_firmer}
+use Rattle.rules.proofs.Wp.{WP, wp_more}
+use Rattle.rules.proofs.Ledger.{SizedAck, loud, further, latest, Own, Rec, JInv, hush, less, firmer}
 use Rattle.rules.proofs.Entries.{Back}
-use Rattle.rules.proofs.Memory.{Core, core, end, SizedDigest, Sourced, Inv, Step, stop_sync}
+use Rattle.rules.proofs.Memory.{Core, core, SizedDigest, Inv, Step, stop_sync}
 use Rattle.rules.proofs.Moves.{moving, apart}
-use Rattle.rules.proofs.Keeps.{opt_both, Does, Ends, does_idle, does_then, ends_then, does_ends, storing}
+use Rattle.rules.proofs.Keeps.{opt_both, Does, Ends, does_idle, ends_then, does_ends, storing}
 use Rattle.rules.proofs.Digests.{high_of, handing_in, again}
 
 high_app : {A : Type 0} (f : A → ℕ) (n : ℕ) (l : List A) (x : A) → highest f n l ≤ highest f n (l ++ (x ∷ []))
@@ -59,11 +59,11 @@ position_at k (x ∷ ks) i e = go (bytes_eq k x) refl e (position k ks) refl (po
         subst (λ n. (n < length (x ∷ ks)) × (get_or (x ∷ ks) n [] ≡ k)) y (omega (arith, t.0), t.1)
 
 -- where no refusal applies every test fails
-pub all_clear : (rs : List (ℕ × Bool)) → All (λ r. 0 < r.0) rs → refusal rs ≡ 0 → All (λ r. r.1 ≡ false) rs
+pub all_clear : (rs : List (ℕ × Bool)) → AllByRecursion (λ r. 0 < r.0) rs → refusal rs ≡ 0 → AllByRecursion (λ r. r.1 ≡ false) rs
 all_clear [] a e = tt
 all_clear (r ∷ rs) a e = go (λ f. all_clear rs a.1 f) r.1 refl e
   where
-    go : (refusal rs ≡ 0 → All (λ r. r.1 ≡ false) rs) → (b : Bool) → r.1 ≡ b → cond b r.0 (refusal rs) ≡ 0 → (r.1 ≡ false) × All (λ r. r.1 ≡ false) rs
+    go : (refusal rs ≡ 0 → AllByRecursion (λ r. r.1 ≡ false) rs) → (b : Bool) → r.1 ≡ b → cond b r.0 (refusal rs) ≡ 0 → (r.1 ≡ false) × AllByRecursion (λ r. r.1 ≡ false) rs
     go rest true q f = let l = a.0 in absurd (omega arith)
     go rest false q f = (q, rest f)
 

@@ -1,5 +1,6 @@
 -- Slips through a list of acts. Assumes nothing.
-use Rattle.std.proofs.Common.{◌≡◌, ℕ, zero, suc, ◌+◌, ◌-◌, ◌<◌, ◌≤◌, Bool, true, false, cond, not, eqb, ltb, ◌⊎◌, List, [], ◌∷◌, ◌++◌, length, All, sym, refl, ap, ◌∙◌, subst, inl, inr, arith, length-append, eqb-true}
+use Rattle.std.proofs.Common.{◌≡◌, ℕ, suc, ◌+◌, ◌-◌, ◌<◌, Bool, true, false, cond, not, eqb, ltb, List, [], ◌∷◌, ◌++◌, length, sym, refl, ap, ◌∙◌, subst, inl, inr, arith, length-append}
+use Rattle.std.specs.List.{AllByRecursion}
 use mathlib.Core.List.Memᴰ
 use mathlib.Core.List.{Memᴰ}
 use borrow.Author.Tests.{eqb-false}
@@ -8,7 +9,7 @@ use Rattle.journal.specs.Log.{Log}
 use Rattle.rules.specs.Acts.{Act, append, sync, prune, sync_all, read, tell, send, block, hand_out, take_back, lodge, fetch, drop_below, hear, sign, make, fail, Ended, Space, Did, at_desk, without, inserted}
 use Rattle.rules.specs.Lists.{those}
 use Rattle.rules.specs.Promises.{handed_by, handed_out, back_by, came_back}
-use Rattle.rules.specs.State.{Desk, no_slips}
+use Rattle.rules.specs.State.{Desk}
 
 abbrev pub replay : List Act → Desk → Desk
 replay [] k = k
@@ -80,7 +81,7 @@ longer h (x ∷ xs) =
     cond_both (ltb h x) (h ∷ x ∷ xs) (x ∷ inserted h xs) (λ l. length l ≡ length (x ∷ xs) + 1) (λ _. omega arith) (λ _. omega arith)
 
 pub shorter : (h : ℕ) (xs : List ℕ) → Memᴰ h xs → length (without h xs) + 1 ≡ length xs
-shorter h [] m = absurd (Memᴰ.not_nil m)
+shorter h [] m = absurd (Memᴰ.not-nil m)
 shorter h (x ∷ xs) (Memᴰ.head e) =
     cond_both (eqb h x) xs (x ∷ without h xs) (λ l. length l + 1 ≡ length (x ∷ xs)) (λ _. omega arith) (λ f. absurd (eqb-false h x f e))
 shorter h (x ∷ xs) (Memᴰ.tail m) =
@@ -144,7 +145,7 @@ abbrev pub Plain : Act → Type 0
 Plain a = ((n : ℕ) (k : Desk) → Able a n k) × ((n : ℕ) → hand a n ≡ n) × (handed_by a ≡ [])
 
 abbrev pub Calm : List Act → Type 0
-Calm acts = All Plain acts
+Calm acts = AllByRecursion Plain acts
 
 pub calm_append : (xs ys : List Act) → Calm xs → Calm ys → Calm (xs ++ ys)
 calm_append [] ys c d = d

@@ -1,5 +1,5 @@
 -- Wanted heights only go up. Assumes nothing.
-use Rattle.std.proofs.Common.{◌≡◌, ℕ, zero, suc, ◌+◌, ◌-◌, ◌<◌, ◌≤◌, max, Bool, true, false, cond, not, ◌&&◌, ◌||◌, eqb, ltb, leb, List, [], ◌∷◌, ◌++◌, map, length, is_some, Some, None, Option, sym, refl, ap, ◌∙◌, subst, arith, ltb-false, ltb-true, eqb-true, leb-false}
+use Rattle.std.proofs.Common.{◌≡◌, ℕ, zero, suc, ◌+◌, ◌-◌, ◌≤◌, Bool, false, cond, not, ◌&&◌, ◌||◌, eqb, ltb, leb, List, [], ◌∷◌, ◌++◌, map, length, is_some, Some, None, Option, refl, arith, ltb-false, ltb-true, eqb-true, leb-false}
 use Rattle.std.proofs.lemmas.Bool.{cond_both}
 use Rattle.rules.proofs.Calm.{by_cond, by_opt, by_front, by_read}
 use Rattle.forms.specs.Values.{Ack, Cert, Activity, TipAck}
@@ -7,13 +7,13 @@ use Rattle.forms.specs.Reading as forms
 use Rattle.journal.specs.declared.places.Overrun.{Overrun}
 use Rattle.journal.specs.Log.{Log, Placed, reading}
 use Rattle.provider.specs.Answers.{Answers}
-use Rattle.rules.specs.Acts.{sync_all, read}
-use Rattle.rules.specs.Calls.{put_by, refused_late, plan_digest, plan_due, plan_closing, plan_cancel}
-use Rattle.rules.specs.Lists.{those, opt, front, from, highest, placed}
+use Rattle.rules.specs.Acts.{sync_all}
+use Rattle.rules.specs.Calls.{refused_late, plan_digest, plan_due, plan_closing, plan_cancel}
+use Rattle.rules.specs.Lists.{those, from, highest, placed}
 use Rattle.rules.specs.Message.{plan_epoch, epoch_refusal, in_epoch, counts, seat_told, safe_tip, to_safe_tip, tip_told, checked, hearing, ack_told, ack_answer, refused_short, too_high, plan_message, plan_told, told}
 use Rattle.rules.specs.Opening.{Found, found, heights_left, own_digest, opened, open_with, at_end, open_from, found_refusal, opening_refusal, before, plan_opening}
-use Rattle.rules.specs.Plans.{After, stays, runs, closes, Plan, Answer, refuse, or_refuse, carry, ok, refused}
-use Rattle.rules.specs.Rules.{announced, dropped, Work, idle, then, move, first_free, with_cert, certify, assembled, agreeing, counted, store, with_acks, with_deadlines, own_ack, restore_from, restore, verified, cleared, signing, sending, sign_and_send, digest_for, rebroadcast, due_at, fill_by, fill, keys, own, attested}
+use Rattle.rules.specs.Plans.{After, stays, runs, closes, Plan, Answer, refuse, or_refuse, carry, ok}
+use Rattle.rules.specs.Rules.{announced, dropped, Work, idle, then, move, first_free, with_cert, certify, assembled, agreeing, counted, store, with_acks, with_deadlines, own_ack, restore_from, restore, cleared, signing, sending, sign_and_send, digest_for, rebroadcast, due_at, fill_by, fill, keys, attested}
 use Rattle.rules.specs.State.{Bytes, Pending, Settings, Mem, Desk, Engine, is_pending, is_certified, pending_at, ack_of, differs, ack_below, next, low}
 use Rattle.std.specs.Str.{bytes_eq}
 use Rattle.tips.specs.Faults.{quorum}

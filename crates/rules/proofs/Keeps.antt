@@ -1,26 +1,27 @@
 -- The rules keep the invariant: certify, store, restore. Assumes nothing.
-use Rattle.std.proofs.Common.{◌≡◌, ℕ, zero, suc, ◌+◌, ◌-◌, ◌^◌, ◌<◌, ◌≤◌, Bool, true, false, cond, not, ◌&&◌, ◌||◌, eqb, ltb, leb, ◌⊎◌, List, [], ◌∷◌, ◌++◌, map, length, is_some, Some, None, All, Option, sym, refl, ap, ◌∙◌, subst, inl, inr, arith, ltb-true, eq-eqb, eqb-true, leb-true}
+use Rattle.std.proofs.Common.{◌≡◌, ℕ, zero, suc, ◌+◌, ◌^◌, ◌<◌, ◌≤◌, Bool, true, not, ◌&&◌, ◌||◌, eqb, ltb, leb, List, [], ◌∷◌, map, length, Some, None, Option, sym, refl, ap, ◌∙◌, subst, inl, inr, arith, ltb-true, eqb-true, All}
+use Rattle.std.proofs.lemmas.List.Elements.{All-nil, All-cons, All-head, All-tail}
 use mathlib.Core.List.Memᴰ
 use mathlib.Core.List.{Memᴰ}
 use Rattle.std.proofs.lemmas.Slice.Eq.{bytes_eq-Decides}
 use Rattle.std.proofs.lemmas.Bool.{cond_both, cases_lt, and_parts, or_parts, not-false}
 use Rattle.std.specs.Str.{bytes_eq}
-use Rattle.forms.specs.Values.{Ack, Cert, Activity, ack, certified, tip}
+use Rattle.forms.specs.Values.{Ack, Cert}
 use Rattle.journal.specs.Log.{Log, Bytes}
-use Rattle.tips.specs.Faults.{quorum, faults}
+use Rattle.tips.specs.Faults.{quorum}
 use Rattle.provider.specs.Answers.{Answers, Attested}
-use Rattle.provider.specs.Laws.{Ascending, Lawful, Enough, signers_of}
-use Rattle.rules.specs.Lists.{those, first, any, opt, placed}
+use Rattle.provider.specs.Laws.{Ascending, Lawful, signers_of}
+use Rattle.rules.specs.Lists.{opt, placed}
 use Rattle.rules.specs.State.{Pending, Settings, Mem, low, pending_at, is_pending, is_certified, ack_of, differs, ack_below}
-use Rattle.rules.specs.Acts.{Act, fail}
+use Rattle.rules.specs.Acts.{Act}
 use Rattle.rules.specs.Rules.{keys, own, attested, Work, idle, then, with_acks, move, first_free, with_cert, announced, go_on, certify, agreeing, assembled, counted, store, restore_from, restore}
 use Rattle.rules.specs.Promises.{Distinct}
 use Rattle.rules.proofs.Grow.{free-above}
 use Rattle.rules.proofs.Members.{those_in, placed_in, map_in_lem, first_in, some_first, any_in, of_height}
 use Rattle.rules.proofs.Wp.{WP, wp_more, wp_then}
-use Rattle.rules.proofs.Ledger.{SizedAck, SizedCert, Own, BackedBy, BehindBy, JInv, firmer}
+use Rattle.rules.proofs.Ledger.{SizedCert, BackedBy, BehindBy, JInv, firmer}
 use Rattle.rules.proofs.Entries.{Back}
-use Rattle.rules.proofs.Memory.{Core, core, end, Sourced, Inv, Step, rest, stride, sourced_on}
+use Rattle.rules.proofs.Memory.{Core, core, Sourced, Inv, Step, rest, stride, sourced_on}
 use Rattle.rules.proofs.Moves.{announcing, moving}
 
 -- by cases, with what was tested
@@ -29,17 +30,17 @@ opt_both P None n f p q = p refl
 opt_both P (Some x) n f p q = q x refl
 
 pub each : {A : Type 0} (P : A → Type 0) (xs : List A) → ((x : A) → Memᴰ x xs → P x) → All P xs
-each P [] f = tt
-each P (x ∷ xs) f = (f x (Memᴰ.head refl), each P xs (λ y m. f y (Memᴰ.tail m)))
+each P [] f = All-nil P
+each P (x ∷ xs) f = All-cons P x xs (f x (Memᴰ.head refl)) (each P xs (λ y m. f y (Memᴰ.tail m)))
 
 pub one_of : {A : Type 0} (P : A → Type 0) (xs : List A) (x : A) → All P xs → Memᴰ x xs → P x
-one_of P [] x a m = absurd (Memᴰ.not_nil m)
-one_of P (y ∷ xs) x a (Memᴰ.head e) = subst P (sym e) a.0
-one_of P (y ∷ xs) x a (Memᴰ.tail m) = one_of P xs x a.1 m
+one_of P [] x a m = absurd (Memᴰ.not-nil m)
+one_of P (y ∷ xs) x a (Memᴰ.head e) = subst P (sym e) (All-head P y xs a)
+one_of P (y ∷ xs) x a (Memᴰ.tail m) = one_of P xs x (All-tail P y xs a) m
 
 -- numbers that ascend are distinct
 rising : (i : ℕ) (xs : List ℕ) → Ascending ltb (i ∷ xs) → (y : ℕ) → Memᴰ y xs → i < y
-rising i [] a y m = absurd (Memᴰ.not_nil m)
+rising i [] a y m = absurd (Memᴰ.not-nil m)
 rising i (x ∷ xs) a y (Memᴰ.head e) = let l = ltb-true i x a.0 in omega arith
 rising i (x ∷ xs) a y (Memᴰ.tail m) = let l = ltb-true i x a.0 in let r = rising x xs a.1 y m in omega arith
 
@@ -163,8 +164,8 @@ module _ (back : Back) (p : Answers) (law : Lawful p) (s : Settings) (g : Bool) 
               o.1,
               distinct _ o.2.ascending,
               o.2.quorate,
-              each _ _ (λ n q. (let x = one-behind n q in
-                  (one_of (λ k. k < length o.0) _ n o.2.below q, (x.0, (i.acks x.0 x.1.among).source, x.1.epoch, x.2, x.1.height, x.1.digest)))),
+              each (λ n. (n < length o.0) × BehindBy p s g hist (record { height = a.height; digest = a.digest; bytes = b }) a.epoch n) (signers_of (map attested (agreeing a m.acks))) (λ n q. (let x = one-behind n q in
+                  (one_of (λ k. k < length o.0) (signers_of (map attested (agreeing a m.acks))) n o.2.below q, (x.0, (i.acks x.0 x.1.among).source, x.1.epoch, x.2, x.1.height, x.1.digest)))),
             ),
           ),
         )

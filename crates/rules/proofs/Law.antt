@@ -1,29 +1,27 @@
 -- Every run keeps the promises. Assumes nothing.
-use Rattle.std.proofs.Common.{◌≡◌, ℕ, zero, suc, ◌^◌, ◌<◌, ◌≤◌, Bool, true, false, cond, eqb, ◌⊎◌, List, [], ◌∷◌, ◌++◌, map, length, Some, None, sym, refl, ap, ◌∙◌, subst, inl, inr, arith}
+use Rattle.std.proofs.Common.{◌≡◌, ℕ, zero, suc, ◌≤◌, Bool, true, false, cond, eqb, ◌⊎◌, List, [], ◌∷◌, ◌++◌, map, None, sym, refl, ap, ◌∙◌, subst, inl, inr}
 use mathlib.Core.List.Memᴰ
 use mathlib.Core.List.{Memᴰ}
-use Rattle.std.proofs.lemmas.Bool.{cond_both}
-use Rattle.forms.specs.Values.{Ack, Cert, Activity, ack, certified, tip}
+use Rattle.forms.specs.Values.{Ack, Activity, ack}
 use Rattle.forms.specs.Reading as forms
 use Rattle.journal.specs.Log.{Log, Bytes, Placed, reading, Firmer, empty}
-use Rattle.journal.specs.Cuts.{Cut}
 use Rattle.provider.specs.Answers.{Answers}
 use Rattle.provider.specs.Laws.{Lawful}
 use Rattle.rules.specs.Lists.{those}
 use Rattle.rules.specs.State.{Settings, Mem, Desk, Engine, shut, running, halted, desk_of}
-use Rattle.rules.specs.Acts.{Act, sync_all, read, tell, take_back, fetch, sign, Ended, whole, full, below-bound, failed, off, Space, Did}
-use Rattle.rules.specs.Plans.{Event, opening, epoch_change, message, taking, fetching, handing_back, cancelling, lodging, due, closing, Answer, ok, refused, After, stays, runs, closes, Plan, refuse, or_refuse}
-use Rattle.rules.specs.Opening.{open_with, at_end, open_from, found_refusal, opening_refusal, before, plan_opening}
+use Rattle.rules.specs.Acts.{Act, sync_all, tell, take_back, fetch, sign, Ended, whole, full, below_bound, failed, off, Space, Did}
+use Rattle.rules.specs.Plans.{Event, opening, epoch_change, message, taking, fetching, handing_back, cancelling, lodging, due, closing, Answer, ok, After, stays, runs, closes, Plan, refuse, or_refuse}
+use Rattle.rules.specs.Opening.{open_from, found_refusal, opening_refusal, before, plan_opening}
 use Rattle.rules.specs.Message.{in_epoch, epoch_refusal, plan_epoch, plan_message}
 use Rattle.rules.specs.Calls.{plan, take_first, fetch_first, counted_back, plan_due, plan_closing}
-use Rattle.rules.specs.Runs.{Sys, settle, Ends, Call, Deed, called, cut, Run, start, call, power_cut, Sized}
+use Rattle.rules.specs.Runs.{Sys, settle, Ends, Deed, called, cut, Run, start, call, power_cut, Sized}
 use Rattle.rules.specs.Promises.{acts_in, Accepted, Rising, OwnKey, NoneUnderOwnKey, Promises}
 use Rattle.rules.proofs.Calm.{by_cond, by_read}
 use Rattle.rules.proofs.Grow.{B, begins}
 use Rattle.rules.proofs.Once.{slips_law}
 use Rattle.rules.proofs.Recs.{none_in}
 use Rattle.rules.proofs.Wp.{WP, Sound, sound}
-use Rattle.rules.proofs.Ledger.{Own, Rec, JInv, firmer, cut_short, hush}
+use Rattle.rules.proofs.Ledger.{Rec, JInv, firmer, cut_short, hush}
 use Rattle.rules.proofs.Entries.{Back, source_of}
 use Rattle.rules.proofs.Memory.{core, Inv}
 use Rattle.rules.proofs.Moves.{apart}
@@ -78,7 +76,7 @@ module _ (back : Back) (sizes : Sizes) (p : Answers) (law : Lawful p) (s : Setti
       finish : (r : Ended) → Sound (JInv p s g) (λ h u. OkAfter back p law s g h u m pl.after) (hist ++ done) r w → Ends r pl (running m k) j a y → Eng (hist ++ done) w y
       finish whole z (_, e) = let t = z.ends refl in subst (Eng (hist ++ done) w) (sym e) (so pl.after t.0 t.1 t.2)
       finish full z (_, e) = subst (Eng (hist ++ done) w) (sym e) (z.stops (λ q. apart (cc)))
-      finish below-bound z (_, e) = subst (Eng (hist ++ done) w) (sym e) (z.stops (λ q. apart (cc)))
+      finish below_bound z (_, e) = subst (Eng (hist ++ done) w) (sym e) (z.stops (λ q. apart (cc)))
       finish failed z (_, e) = subst (Eng (hist ++ done) w) (sym e) (z.stops (λ q. apart (cc)))
       finish off z (_, e) = subst (Eng (hist ++ done) w) (sym e) (z.stops (λ q. apart (cc)))
 
@@ -111,7 +109,7 @@ module _ (back : Back) (sizes : Sizes) (p : Answers) (law : Lawful p) (s : Setti
       finish : (r : Ended) → Sound (JInv p s g) (JInv p s g) (hist ++ done) r w → Ends r pl x j a y → Eng (hist ++ done) w y
       finish whole z (_, e) = let t = z.ends refl in subst (Eng (hist ++ done) w) (sym e) (so pl.after x st q.idle (firmer p s g (hist ++ done) t.0 w t.1 t.2))
       finish full z (_, e) = subst (Eng (hist ++ done) w) (sym e) (z.stops (λ q. apart (cc)))
-      finish below-bound z (_, e) = subst (Eng (hist ++ done) w) (sym e) (z.stops (λ q. apart (cc)))
+      finish below_bound z (_, e) = subst (Eng (hist ++ done) w) (sym e) (z.stops (λ q. apart (cc)))
       finish failed z (_, e) = subst (Eng (hist ++ done) w) (sym e) (z.stops (λ q. apart (cc)))
       finish off z (_, e) = subst (Eng (hist ++ done) w) (sym e) (z.stops (λ q. apart (cc)))
 
@@ -148,7 +146,7 @@ module _ (back : Back) (sizes : Sizes) (p : Answers) (law : Lawful p) (s : Setti
           let t' = subst (λ o. Ends o pl shut j a y) x t in
           let k = z.ends x in subst (Eng (hist ++ done) w) (sym t'.1) (so x pl.after refl k.0 k.1 k.2)
       finish full x z t = subst (Eng (hist ++ done) w) (sym (subst (λ o. Ends o pl shut j a y) x t).1) (z.stops (λ q. apart (cc)))
-      finish below-bound x z t = subst (Eng (hist ++ done) w) (sym (subst (λ o. Ends o pl shut j a y) x t).1) (z.stops (λ q. apart (cc)))
+      finish below_bound x z t = subst (Eng (hist ++ done) w) (sym (subst (λ o. Ends o pl shut j a y) x t).1) (z.stops (λ q. apart (cc)))
       finish failed x z t = subst (Eng (hist ++ done) w) (sym (subst (λ o. Ends o pl shut j a y) x t).1) (z.stops (λ q. apart (cc)))
       finish off x z t = subst (Eng (hist ++ done) w) (sym (subst (λ o. Ends o pl shut j a y) x t).1) (z.stops (λ q. apart (cc)))
 
@@ -167,31 +165,31 @@ module _ (back : Back) (sizes : Sizes) (p : Answers) (law : Lawful p) (s : Setti
 
   plan-signs : (x : Engine) (v : Log) (e : Event) (a : Ack) → Memᴰ (sign a) (plan p s x v None e).acts → Signer x a
   plan-signs x v (opening e now room) a m = rest_signs x (plan_opening p s x v None e now room) a (opening_quiet p s x v e now room) m
-  plan-signs shut v (epoch_change e now) a m = Memᴰ.not_nil m
+  plan-signs shut v (epoch_change e now) a m = Memᴰ.not-nil m
   plan-signs (running n k) v (epoch_change e now) a m = rest_signs (running n k) (plan_epoch p s n e now) a (epoch_quiet p s n e now) m
-  plan-signs (halted k) v (epoch_change e now) a m = Memᴰ.not_nil m
-  plan-signs shut v (message c b room) a m = Memᴰ.not_nil m
+  plan-signs (halted k) v (epoch_change e now) a m = Memᴰ.not-nil m
+  plan-signs shut v (message c b room) a m = Memᴰ.not-nil m
   plan-signs (running n k) v (message c b room) a m = (steady_message p s n c b room).signs a m
-  plan-signs (halted k) v (message c b room) a m = Memᴰ.not_nil m
-  plan-signs shut v taking a m = Memᴰ.not_nil m
+  plan-signs (halted k) v (message c b room) a m = Memᴰ.not-nil m
+  plan-signs shut v taking a m = Memᴰ.not-nil m
   plan-signs (running n k) v taking a m = (steady_taking n n.wanted).signs a m
-  plan-signs (halted k) v taking a m = Memᴰ.not_nil m
-  plan-signs shut v fetching a m = Memᴰ.not_nil m
+  plan-signs (halted k) v taking a m = Memᴰ.not-nil m
+  plan-signs shut v fetching a m = Memᴰ.not-nil m
   plan-signs (running n k) v fetching a m = (steady_fetching n.epoch k.lodged).signs a m
   plan-signs (halted k) v fetching a m = rest_signs (halted k) (fetch_first k.lodged) a (fetch_quiet k.lodged) m
-  plan-signs shut v (handing_back h d now room) a m = Memᴰ.not_nil m
-  plan-signs (running n k) v (handing_back h d now room) a m = by_cond (λ pl. Memᴰ (sign a) pl.acts → a.epoch ≡ n.epoch) (eqb k.out 0) (refuse 24) _ (λ z. absurd (Memᴰ.not_nil z)) ((steady_digest p s n h d now room).signs a) m
+  plan-signs shut v (handing_back h d now room) a m = Memᴰ.not-nil m
+  plan-signs (running n k) v (handing_back h d now room) a m = by_cond (λ pl. Memᴰ (sign a) pl.acts → a.epoch ≡ n.epoch) (eqb k.out 0) (refuse 24) _ (λ z. absurd (Memᴰ.not-nil z)) ((steady_digest p s n h d now room).signs a) m
   plan-signs (halted k) v (handing_back h d now room) a m = rest_signs (halted k) (cond (eqb k.out 0) (refuse 24) (counted_back h)) a (by_cond Quiet (eqb k.out 0) (refuse 24) (counted_back h) tt (refl, tt)) m
-  plan-signs shut v (cancelling h) a m = Memᴰ.not_nil m
-  plan-signs (running n k) v (cancelling h) a m = by_cond (λ pl. Memᴰ (sign a) pl.acts → a.epoch ≡ n.epoch) (eqb k.out 0) (refuse 24) _ (λ z. absurd (Memᴰ.not_nil z)) ((steady_cancel s n h).signs a) m
+  plan-signs shut v (cancelling h) a m = Memᴰ.not-nil m
+  plan-signs (running n k) v (cancelling h) a m = by_cond (λ pl. Memᴰ (sign a) pl.acts → a.epoch ≡ n.epoch) (eqb k.out 0) (refuse 24) _ (λ z. absurd (Memᴰ.not-nil z)) ((steady_cancel s n h).signs a) m
   plan-signs (halted k) v (cancelling h) a m = rest_signs (halted k) (cond (eqb k.out 0) (refuse 24) (counted_back h)) a (by_cond Quiet (eqb k.out 0) (refuse 24) (counted_back h) tt (refl, tt)) m
-  plan-signs shut v (lodging h) a m = Memᴰ.not_nil m
-  plan-signs (running n k) v (lodging h) a m = by_cond (λ pl. Memᴰ (sign a) pl.acts → a.epoch ≡ n.epoch) (eqb k.out 0) (refuse 24) _ (λ z. absurd (Memᴰ.not_nil z)) ((steady_put n h ok).signs a) m
+  plan-signs shut v (lodging h) a m = Memᴰ.not-nil m
+  plan-signs (running n k) v (lodging h) a m = by_cond (λ pl. Memᴰ (sign a) pl.acts → a.epoch ≡ n.epoch) (eqb k.out 0) (refuse 24) _ (λ z. absurd (Memᴰ.not-nil z)) ((steady_put n h ok).signs a) m
   plan-signs (halted k) v (lodging h) a m = rest_signs (halted k) (cond (eqb k.out 0) (refuse 24) (counted_back h)) a (by_cond Quiet (eqb k.out 0) (refuse 24) (counted_back h) tt (refl, tt)) m
-  plan-signs shut v (due now room) a m = Memᴰ.not_nil m
+  plan-signs shut v (due now room) a m = Memᴰ.not-nil m
   plan-signs (running n k) v (due now room) a m = (steady_due p s n now room).signs a m
-  plan-signs (halted k) v (due now room) a m = Memᴰ.not_nil m
-  plan-signs shut v closing a m = Memᴰ.not_nil m
+  plan-signs (halted k) v (due now room) a m = Memᴰ.not-nil m
+  plan-signs shut v closing a m = Memᴰ.not-nil m
   plan-signs (running n k) v closing a m = (steady_closing n.epoch k).signs a m
   plan-signs (halted k) v closing a m = rest_signs (halted k) (plan_closing k) a (by_cond Quiet (eqb k.out 0) (record { acts = sync_all ∷ []; after = closes; answer = ok }) (refuse 26) (refl, tt) tt) m
 
@@ -337,11 +335,11 @@ module _ (back : Back) (sizes : Sizes) (p : Answers) (law : Lawful p) (s : Setti
   empty_inv : JInv p s g [] empty
   empty_inv = record {
     form = λ t b i. absurd (none_in t b i);
-    one = λ c d x y e. elim x [ inl r ↦ absurd (none_in _ _ r.1) | inr m ↦ absurd (Memᴰ.not_nil m) ];
-    told = λ c m. absurd (Memᴰ.not_nil m);
-    backed = λ c m. absurd (Memᴰ.not_nil m);
-    agree = λ q a b x. elim x [ inl r ↦ absurd (none_in _ _ r.1) | inr m ↦ elim m [ inl n ↦ absurd (Memᴰ.not_nil n) | inr n ↦ absurd (Memᴰ.not_nil n.1) ] ];
-    shown = λ q a x. elim x [ inl n ↦ absurd (Memᴰ.not_nil n) | inr n ↦ absurd (Memᴰ.not_nil n.1) ];
+    one = λ c d x y e. elim x [ inl r ↦ absurd (none_in _ _ r.1) | inr m ↦ absurd (Memᴰ.not-nil m) ];
+    told = λ c m. absurd (Memᴰ.not-nil m);
+    backed = λ c m. absurd (Memᴰ.not-nil m);
+    agree = λ q a b x. elim x [ inl r ↦ absurd (none_in _ _ r.1) | inr m ↦ elim m [ inl n ↦ absurd (Memᴰ.not-nil n) | inr n ↦ absurd (Memᴰ.not-nil n.1) ] ];
+    shown = λ q a x. elim x [ inl n ↦ absurd (Memᴰ.not-nil n) | inr n ↦ absurd (Memᴰ.not-nil n.1) ];
   }
 
   abbrev Prem : List Deed → Type 0
@@ -377,7 +375,7 @@ module _ (back : Back) (sizes : Sizes) (p : Answers) (law : Lawful p) (s : Setti
       go x (runs n) w i = now_accepted x past e a done n w i
       go x closes w i = tt
   now_after x past e pl full j a y done w i (o, q) = subst (λ z. Now z (called full e a done ∷ past)) (sym q) tt
-  now_after x past e pl below-bound j a y done w i (o, q) = subst (λ z. Now z (called below-bound e a done ∷ past)) (sym q) tt
+  now_after x past e pl below_bound j a y done w i (o, q) = subst (λ z. Now z (called below_bound e a done ∷ past)) (sym q) tt
   now_after x past e pl failed j a y done w i (o, q) = subst (λ z. Now z (called failed e a done ∷ past)) (sym q) tt
   now_after x past e pl off j a y done w i (o, q) = subst (λ z. Now z (called off e a done ∷ past)) (sym q) tt
 
@@ -396,7 +394,7 @@ module _ (back : Back) (sizes : Sizes) (p : Answers) (law : Lawful p) (s : Setti
       go closes q z = apart (cc)
 
   pub run_inv : {x : Sys} {past : List Deed} → Run p s x past → Prem past → RInv x past
-  run_inv start q = record { eng = empty_inv; signs = λ a m. absurd (Memᴰ.not_nil m); now = tt }
+  run_inv start q = record { eng = empty_inv; signs = λ a m. absurd (Memᴰ.not-nil m); now = tt }
   run_inv (power_cut {x} {past} run w c) q =
       let i = run_inv run (earlier cut past q) in
       record { eng = cut_short p s g (acts_in past) x.log w (jour (acts_in past) x.log x.engine i.eng) c; signs = λ a m. accepted_on cut a.epoch past (i.signs a m); now = tt }

@@ -1,22 +1,22 @@
 -- What holds of the journal and of all that was done, wherever the engine stops: every record has a source, certificates agree, own acks agree. Assumes nothing.
-use Rattle.std.proofs.Common.{◌≡◌, ℕ, ◌+◌, ◌-◌, ◌*◌, ◌/◌, ◌^◌, ◌<◌, ◌≤◌, Bool, true, false, ◌⊎◌, List, [], ◌∷◌, ◌++◌, length, Some, None, Ok, Err, All, sym, refl, ap, ◌∙◌, subst, inl, inr, mul_comm, div-lt_iff_lt-mul, arith}
+use Rattle.std.proofs.Common.{◌≡◌, ℕ, ◌+◌, ◌*◌, ◌/◌, ◌^◌, ◌<◌, ◌≤◌, Bool, true, false, ◌⊎◌, List, [], ◌∷◌, ◌++◌, length, Some, sym, refl, ap, ◌∙◌, subst, inl, inr, mul_comm, div-lt_iff_lt-mul, arith, All}
+use Rattle.std.proofs.lemmas.List.Elements.{All-weaker}
 use mathlib.Core.Bool.{false≢true}
 use mathlib.Core.List.Memᴰ
 use mathlib.Core.List.{Memᴰ}
 use native.Mathlib.Nat.{mul-div-le}
 use Rattle.std.proofs.lemmas.Bool.{cases_lt}
 use Rattle.forms.specs.Values.{Ack, Cert, Activity, ack, certified, tip}
-use Rattle.forms.specs.Reading as forms
 use Rattle.forms.specs.Writing.{write}
 use Rattle.tips.specs.Faults.{quorum}
-use Rattle.journal.specs.Log.{Log, Bytes, appended, synced, all_synced, pruned, Firmer}
+use Rattle.journal.specs.Log.{Log, Bytes, Firmer}
 use Rattle.journal.specs.Cuts.{Cut}
 use Rattle.provider.specs.Answers.{Answers}
 use Rattle.rules.specs.State.{Settings, low, section}
 use Rattle.rules.specs.Acts.{Act, append, sync, prune, sync_all, read, tell, send, block, hand_out, take_back, lodge, fetch, drop_below, hear, sign, make, fail}
 use Rattle.rules.specs.Rules.{keys, own}
 use Rattle.rules.specs.Promises.{Distinct}
-use Rattle.rules.proofs.Recs.{In, Dur, dur_in, in_appended, dur_appended, new-appended, appended_in, cut_in, cut-durable, cut_keeps, in_firmer, firmer_in, dur_firmer}
+use Rattle.rules.proofs.Recs.{In, Dur, dur_in, cut_in, cut_keeps, firmer_in, dur_firmer}
 
 -- what records can hold
 pub record SizedAck (a : Ack) : Type 0 where
@@ -198,10 +198,11 @@ module _ (p : Answers) (s : Settings) (g : Bool) where
   source_on hist a (ack x) (m, o) = (further a (sign x) m, o)
   source_on hist a (certified c) (e, (ks, (is, k, d, q, b))) = (e, (ks, (is, k, d, q, on is b)))
     where
+      more : (i : ℕ) → (i < length ks) × BehindBy hist c e i → (i < length ks) × BehindBy (hist ++ (a ∷ [])) c e i
+      more i (l, (x, m, e1, e2, e3, e4)) = (l, (x, elim m [ inl n ↦ inl (further a (hear x) n) | inr n ↦ inr (further a (sign x) n) ], e1, e2, e3, e4))
+
       on : (is : List ℕ) → All (λ i. (i < length ks) × BehindBy hist c e i) is → All (λ i. (i < length ks) × BehindBy (hist ++ (a ∷ [])) c e i) is
-      on [] u = tt
-      on (i ∷ is) ((l, (x, m, e1, e2, e3, e4)), u) =
-          ((l, (x, elim m [ inl n ↦ inl (further a (hear x) n) | inr n ↦ inr (further a (sign x) n) ], e1, e2, e3, e4)), on is u)
+      on is u = All-weaker (λ i. (i < length ks) × BehindBy hist c e i) (λ i. (i < length ks) × BehindBy (hist ++ (a ∷ [])) c e i) more is u
   source_on hist a (tip t) u = tt
 
   pub hush : (hist : List Act) (v : Log) (a : Act) → JInv hist v → loud a ≡ false → JInv (hist ++ (a ∷ [])) v

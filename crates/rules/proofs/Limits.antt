@@ -1,14 +1,15 @@
 -- Heights, tips and records stay within what the forms can hold. Assumes nothing.
-use Rattle.std.proofs.Common.{◌≡◌, ℕ, ◌+◌, ◌^◌, ◌<◌, ◌≤◌, false, List, [], ◌∷◌, All, refl, ap, ◌∙◌, arith}
+use Rattle.std.proofs.Common.{◌≡◌, ◌+◌, ◌^◌, ◌<◌, false, List, [], ◌∷◌, refl, ap, ◌∙◌, arith, All}
+use Rattle.std.proofs.lemmas.List.Elements.{All-nil, All-cons}
 use mathlib.Core.List.{Memᴰ}
 use Rattle.forms.specs.Values.{Activity, ack, certified, tip}
 use Rattle.forms.specs.Reading as forms
-use Rattle.journal.specs.Log.{Log, Placed, reading}
+use Rattle.journal.specs.Log.{Log}
 use Rattle.provider.specs.Answers.{Answers}
 use Rattle.provider.specs.Laws.{Lawful}
 use Rattle.rules.specs.State.{Settings, Engine, shut, running, halted, section}
-use Rattle.rules.specs.Runs.{Sys, Run, Deed}
-use Rattle.rules.specs.Limits.{height_in, Readable, LowHeights, RecordsFit}
+use Rattle.rules.specs.Runs.{Run, Deed}
+use Rattle.rules.specs.Limits.{height_in, LowHeights, RecordsFit}
 use Rattle.rules.proofs.Recs.{reading_in}
 use Rattle.rules.proofs.Ledger.{height_of_lem}
 use Rattle.rules.proofs.Moves.{apart}
@@ -21,8 +22,8 @@ same-height (certified c) = refl
 same-height (tip t) = refl
 
 all_from : {X : Type 0} (P : X → Type 0) (xs : List X) → ((x : X) → Memᴰ x xs → P x) → All P xs
-all_from P [] f = tt
-all_from P (x ∷ xs) f = (f x (Memᴰ.head refl), all_from P xs (λ y m. f y (Memᴰ.tail m)))
+all_from P [] f = All-nil P
+all_from P (x ∷ xs) f = All-cons P x xs (f x (Memᴰ.head refl)) (all_from P xs (λ y m. f y (Memᴰ.tail m)))
 
 -- what holds of a running engine
 pub low_heights : (p : Answers) (s : Settings) (past : List Deed) (v : Log) (x : Engine) → Lawful p → Run p s (record { engine = x; log = v }) past → LowHeights x

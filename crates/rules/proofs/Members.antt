@@ -1,14 +1,14 @@
 -- Who is in a list that was filtered, placed into or mapped. Assumes nothing.
-use Rattle.std.proofs.Common.{◌≡◌, ℕ, zero, suc, ◌+◌, ◌<◌, ◌≤◌, Bool, true, false, cond, ◌||◌, eqb, ltb, leb, ◌⊎◌, List, [], ◌∷◌, ◌++◌, map, is_some, Some, None, Option, sym, refl, ap, ◌∙◌, subst, inl, inr, arith, ltb-false, ltb-true, eq-eqb, eqb-true, leb-true}
+use Rattle.std.proofs.Common.{◌≡◌, ℕ, zero, suc, ◌+◌, ◌<◌, ◌≤◌, Bool, true, false, cond, eqb, ltb, ◌⊎◌, List, [], ◌∷◌, map, is_some, Some, None, Option, sym, refl, ap, ◌∙◌, inl, inr, arith, ltb-false, eq-eqb, eqb-true}
 use mathlib.Core.List.Memᴰ
 use mathlib.Core.List.{Memᴰ}
-use Rattle.std.proofs.lemmas.Bool.{cond_both, le-leb, or_cases, or_left, or_right}
+use Rattle.std.proofs.lemmas.Bool.{cond_both, or_cases, or_left, or_right}
 use Rattle.forms.specs.Values.{Cert}
 use Rattle.rules.specs.Lists.{those, first, any, placed, from}
 
 module _ {A : Type 0} where
   pub those_in : (p : A → Bool) (y : A) (xs : List A) → Memᴰ y (those p xs) → Memᴰ y xs × (p y ≡ true)
-  those_in p y [] m = absurd (Memᴰ.not_nil m)
+  those_in p y [] m = absurd (Memᴰ.not-nil m)
   those_in p y (x ∷ xs) m = pick (p x) refl (λ u. those_in p y xs u) m
     where
       pick : (b : Bool) → p x ≡ b → (Memᴰ y (those p xs) → Memᴰ y xs × (p y ≡ true)) → Memᴰ y (cond b (x ∷ those p xs) (those p xs)) → Memᴰ y (x ∷ xs) × (p y ≡ true)
@@ -17,7 +17,7 @@ module _ {A : Type 0} where
       pick false q rest n = let i = rest n in (Memᴰ.tail i.0, i.1)
 
   pub in_those : (p : A → Bool) (y : A) (xs : List A) → p y ≡ true → Memᴰ y xs → Memᴰ y (those p xs)
-  in_those p y [] q m = absurd (Memᴰ.not_nil m)
+  in_those p y [] q m = absurd (Memᴰ.not-nil m)
   in_those p y (x ∷ xs) q (Memᴰ.head e) = cond_both (p x) (x ∷ those p xs) (those p xs) (Memᴰ y) (λ _. Memᴰ.head e) (λ n. let z : ◌≡◌ {A = Bool} true false = sym q ∙ ap p e ∙ n in absurd (let k : ◌≡◌ {A = ℕ} 0 1 = cc in omega arith))
   in_those p y (x ∷ xs) q (Memᴰ.tail m) =
       let i = in_those p y xs q m in
@@ -25,7 +25,7 @@ module _ {A : Type 0} where
 
   pub placed_in : (below : A → A → Bool) (x y : A) (xs : List A) → Memᴰ y (placed below x xs) → (y ≡ x) ⊎ Memᴰ y xs
   placed_in below x y [] (Memᴰ.head e) = inl e
-  placed_in below x y [] (Memᴰ.tail m) = absurd (Memᴰ.not_nil m)
+  placed_in below x y [] (Memᴰ.tail m) = absurd (Memᴰ.not-nil m)
   placed_in below x y (z ∷ xs) m = pick (below x z) (below z x) (λ u. placed_in below x y xs u) m
     where
       pick : (a b : Bool) → (Memᴰ y (placed below x xs) → (y ≡ x) ⊎ Memᴰ y xs) → Memᴰ y (cond a (x ∷ z ∷ xs) (cond b (z ∷ placed below x xs) (x ∷ xs))) → (y ≡ x) ⊎ Memᴰ y (z ∷ xs)
@@ -52,7 +52,7 @@ module _ {A : Type 0} where
       pick false q f rest = let i = rest f in (Memᴰ.tail i.0, i.1)
 
   pub first_none : (p : A → Bool) (xs : List A) → first p xs ≡ None → (x : A) → Memᴰ x xs → p x ≡ false
-  first_none p [] e x m = absurd (Memᴰ.not_nil m)
+  first_none p [] e x m = absurd (Memᴰ.not-nil m)
   first_none p (y ∷ xs) e x m = pick (p y) refl e m (λ u v. first_none p xs u x v)
     where
       pick : (b : Bool) → p y ≡ b → cond b (Some y) (first p xs) ≡ None → Memᴰ x (y ∷ xs) → (first p xs ≡ None → Memᴰ x xs → p x ≡ false) → p x ≡ false
@@ -76,12 +76,12 @@ module _ {A : Type 0} where
       ]
 
   pub in_any : (p : A → Bool) (x : A) (xs : List A) → p x ≡ true → Memᴰ x xs → any p xs ≡ true
-  in_any p x [] q m = absurd (Memᴰ.not_nil m)
+  in_any p x [] q m = absurd (Memᴰ.not-nil m)
   in_any p x (y ∷ xs) q (Memᴰ.head e) = or_left (p y) (any p xs) (ap p (sym e) ∙ q)
   in_any p x (y ∷ xs) q (Memᴰ.tail m) = or_right (p y) (any p xs) (in_any p x xs q m)
 
   pub map_in_lem : {B : Type 0} (f : B → A) (y : A) (xs : List B) → Memᴰ y (map f xs) → (x : B) × Memᴰ x xs × (y ≡ f x)
-  map_in_lem f y [] m = absurd (Memᴰ.not_nil m)
+  map_in_lem f y [] m = absurd (Memᴰ.not-nil m)
   map_in_lem f y (x ∷ xs) (Memᴰ.head e) = (x, Memᴰ.head refl, e)
   map_in_lem f y (x ∷ xs) (Memᴰ.tail m) = let i = map_in_lem f y xs m in (i.0, Memᴰ.tail i.1, i.2)
 
@@ -104,7 +104,7 @@ any-placed h c (y ∷ xs) e =
 
 -- numbers from a on
 pub from_in : (h a n : ℕ) → Memᴰ h (from a n) → (a ≤ h) × (h < a + n)
-from_in h a zero m = absurd (Memᴰ.not_nil m)
+from_in h a zero m = absurd (Memᴰ.not-nil m)
 from_in h a (suc n) (Memᴰ.head e) = (omega arith, omega arith)
 from_in h a (suc n) (Memᴰ.tail m) = let i = from_in h (a + 1) n m in (omega arith, omega arith)
 

@@ -1,24 +1,19 @@
 -- What a running engine knows, held against its journal: the invariant, and the acts that keep it. Assumes nothing.
-use Rattle.std.proofs.Common.{◌≡◌, ℕ, ◌+◌, ◌-◌, ◌*◌, ◌/◌, ◌^◌, ◌<◌, ◌≤◌, Bool, true, false, cond, eqb, ltb, leb, ◌⊎◌, List, [], ◌∷◌, ◌++◌, length, Some, None, Option, sym, refl, ap, ◌∙◌, subst, inl, inr, mul_comm, div-lt_iff_lt-mul, arith, eq-eqb, eqb-true, leb-true}
-use mathlib.Core.Bool.{false≢true}
+use Rattle.std.proofs.Common.{◌≡◌, ℕ, ◌+◌, ◌/◌, ◌^◌, ◌<◌, ◌≤◌, Bool, true, ◌⊎◌, List, [], ◌∷◌, ◌++◌, length, Some, None, Option, refl, ◌∙◌, inl, inr, arith}
 use mathlib.Core.List.{Memᴰ}
-use native.Mathlib.Nat.{mul-div-le}
-use Rattle.std.proofs.lemmas.Bool.{cases_lt, le-leb}
+use Rattle.std.proofs.lemmas.Bool.{cases_lt}
 use Rattle.forms.specs.Values.{Ack, Cert, Activity, ack, certified, tip}
 use Rattle.forms.specs.Writing.{write}
-use Rattle.journal.specs.Log.{Log, Bytes, appended, synced, all_synced, pruned, Firmer}
-use Rattle.journal.specs.Cuts.{Cut}
+use Rattle.journal.specs.Log.{Log, Bytes, appended, synced}
 use Rattle.provider.specs.Answers.{Answers}
-use Rattle.rules.specs.Lists.{those, any, highest, placed}
-use Rattle.rules.specs.State.{Seat, Pending, Settings, Mem, low, section, next}
-use Rattle.rules.specs.Acts.{Act, append, sync, prune, tell, send, drop_below, hear, sign, make, Ended, whole, full, below-bound, failed, off, Space, Stops, StopsAppend, StopsSync}
-use Rattle.rules.specs.Rules.{dropped, move, with_cert, announced, signed}
-use Rattle.rules.proofs.Grow.{high_more, high_placed, next-dropped}
-use Rattle.rules.proofs.Members.{those_in, in_those, placed_in, placed-here, any_in, in_any, of_height, any-placed}
-use Rattle.rules.proofs.Recs.{In, Dur, dur_in, in_appended, dur_appended, new-appended, appended_in, in_synced, synced_in, dur_synced, new-synced, in_pruned, dur_pruned, pruned_in, cut_in, cut_keeps}
-use Rattle.rules.proofs.Wp.{StopOk, WP, wp_more, wp_then}
-use Rattle.rules.proofs.Ledger.{SizedAck, SizedCert, Small, height_of_lem, loud, further, latest, quiet, lower-section, Own, Source, place, Rec, RecD, Passed, Stands, ShownBy, Out, BackedBy, JInv, less, firmer, cut_short, pruning, source_on, hush}
-use Rattle.rules.proofs.Entries.{Back, Free, old_or_new, same-entry, entered, source_of, spoken, tells, sends}
+use Rattle.rules.specs.Lists.{any, highest}
+use Rattle.rules.specs.State.{Seat, Pending, Settings, Mem, low}
+use Rattle.rules.specs.Acts.{Act, append, sync, hear, sign, Ended, whole, full, below_bound, failed, off, Space, StopsAppend, StopsSync}
+use Rattle.rules.proofs.Members.{of_height}
+use Rattle.rules.proofs.Recs.{dur_in, dur_appended, new-appended, synced_in, dur_synced, new-synced}
+use Rattle.rules.proofs.Wp.{WP}
+use Rattle.rules.proofs.Ledger.{SizedAck, Small, height_of_lem, loud, further, quiet, lower-section, Own, Source, place, Rec, RecD, Passed, Out, JInv, less, firmer, cut_short, hush}
+use Rattle.rules.proofs.Entries.{Back, Free, old_or_new, entered}
 
 -- the part of the memory that the invariant speaks of
 pub record Core : Type 0 where
@@ -117,14 +112,14 @@ module _ (back : Back) (p : Answers) (s : Settings) (g : Bool) where
   pub stop_sync : (hist : List Act) (v : Log) → JInv p s g hist v → (r : Ended) (w : Log) → StopsSync v r w → JInv p s g hist w
   stop_sync hist v j whole w z = absurd z
   stop_sync hist v j full w z = firmer p s g hist v w j z
-  stop_sync hist v j below-bound w z = absurd z
+  stop_sync hist v j below_bound w z = absurd z
   stop_sync hist v j failed w z = absurd z
   stop_sync hist v j off w z = cut_short p s g hist v w j z
 
   stop_append : (hist : List Act) (v : Log) (x : Activity) → JInv p s g hist v → JInv p s g hist (appended (place p s g x) (write x) v) → (room : Space) (r : Ended) (w : Log) → StopsAppend room (place p s g x) x v r w → JInv p s g hist w
   stop_append hist v x j k room whole w z = absurd z
   stop_append hist v x j k room full w z = firmer p s g hist v w j z.2
-  stop_append hist v x j k room below-bound w z = firmer p s g hist v w j z.1
+  stop_append hist v x j k room below_bound w z = firmer p s g hist v w j z.1
   stop_append hist v x j k room failed w z = absurd z
   stop_append hist v x j k room off w z = cut_short p s g hist _ w k z.1
 

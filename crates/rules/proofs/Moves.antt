@@ -1,5 +1,5 @@
 -- The pieces of which every rule is made keep the invariant: a certificate is announced, the tip moves, an ack is signed, an ack is sent. Assumes nothing.
-use Rattle.std.proofs.Common.{◌≡◌, ℕ, ◌+◌, ◌-◌, ◌^◌, ◌<◌, ◌≤◌, Bool, true, false, cond, ltb, leb, ◌⊎◌, List, [], ◌∷◌, ◌++◌, Some, None, sym, refl, ap, ◌∙◌, subst, inl, inr, arith, eq-eqb, eqb-true, leb-true}
+use Rattle.std.proofs.Common.{◌≡◌, ℕ, ◌+◌, ◌^◌, ◌<◌, ◌≤◌, Bool, true, false, ltb, ◌⊎◌, List, [], ◌∷◌, ◌++◌, Some, sym, refl, ap, ◌∙◌, subst, inl, inr, arith, eq-eqb, eqb-true, leb-true}
 use mathlib.Core.Bool.{false≢true}
 use mathlib.Core.List.Memᴰ
 use mathlib.Core.List.{Memᴰ}
@@ -8,10 +8,10 @@ use Rattle.forms.specs.Values.{Ack, Cert, Activity, ack, certified, tip}
 use Rattle.journal.specs.Log.{Log, pruned}
 use Rattle.journal.specs.Cuts.{Cut}
 use Rattle.provider.specs.Answers.{Answers}
-use Rattle.rules.specs.Lists.{those, any, placed}
+use Rattle.rules.specs.Lists.{any}
 use Rattle.rules.specs.State.{Pending, Settings, Mem, low, section}
 use Rattle.rules.specs.Acts.{Act, append, sync, prune, tell, send, drop_below, hear, sign, make}
-use Rattle.rules.specs.Rules.{dropped, move, with_cert, announced, signed}
+use Rattle.rules.specs.Rules.{move, with_cert, announced, signed}
 use Rattle.rules.proofs.Grow.{high_more, high_placed, next-dropped}
 use Rattle.rules.proofs.Members.{those_in, in_those, placed_in, placed-here, any_in, in_any, of_height, any-placed}
 use Rattle.rules.proofs.Recs.{Dur, dur_in, dur_pruned, pruned_in, cut_in, cut_keeps}

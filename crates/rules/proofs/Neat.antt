@@ -1,7 +1,7 @@
 -- Every call leaves a running engine's tables neat. Assumes nothing.
-use Rattle.std.proofs.Common.{◌≡◌, ℕ, zero, suc, ◌+◌, ◌-◌, ◌^◌, ◌<◌, ◌≤◌, Bool, true, false, cond, not, ◌&&◌, eqb, ltb, leb, List, [], ◌∷◌, ◌++◌, map, length, Some, None, Ok, Err, All, Option, Result, sym, refl, ap, ◌∙◌, subst, arith}
+use Rattle.std.proofs.Common.{◌≡◌, ℕ, zero, suc, ◌+◌, ◌-◌, ◌^◌, ◌<◌, ◌≤◌, Bool, true, false, cond, not, ◌&&◌, eqb, ltb, leb, List, [], ◌∷◌, ◌++◌, map, length, Some, None, Ok, Err, Option, Result, sym, refl, ap, ◌∙◌, subst, arith, All, get_or}
+use Rattle.std.proofs.lemmas.List.Elements.{All-nil, All-cons, All-head, All-tail, All-weaker, All-map, All-push}
 use Rattle.std.specs.Str.{bytes_eq}
-use Rattle.std.proofs.lemmas.List.Elements.{All-weaker, All-map, All-push}
 use Rattle.std.proofs.lemmas.Bool.{cond_both, eqb-true, ltb-true, ltb-false, leb-true, leb-false, or_parts, not-false, and_parts}
 use Rattle.std.proofs.lemmas.Bool.Decides.{nat_tests}
 use Rattle.forms.specs.declared.faults.Fault.{Fault}
@@ -137,11 +137,12 @@ later_out s e f a l p q = grind (arith, nat_tests)
 
 seat_small : (xs : List Seat) (k : Bytes) → All (λ x. x.tip < 2 ^ 62) xs → seat_tip xs k < 2 ^ 62
 seat_small [] k a = omega arith
-seat_small (x ∷ xs) k (l, a) = by_cond (λ o. opt o 0 (λ y. y.tip) < 2 ^ 62) (bytes_eq k x.key) (Some x) _ l (seat_small xs k a)
+seat_small (x ∷ xs) k a =
+    let P : Seat → Type 0 = λ x. x.tip < 2 ^ 62 in
+    by_cond (λ o. opt o 0 (λ y. y.tip) < 2 ^ 62) (bytes_eq k x.key) (Some x) _ (All-head P x xs a) (seat_small xs k (All-tail P x xs a))
 
 all-keys : (P : Seat → Type 0) (f : Bytes → Seat) (ks : List Bytes) → ((k : Bytes) → P (f k)) → All P (map f ks)
-all-keys P f [] g = tt
-all-keys P f (k ∷ ks) g = (g k, all-keys P f ks g)
+all-keys P f ks g = All-map P f ks (λ i d l. g (get_or ks i d))
 
 y_epoch : (p : Answers) (s : Settings) → allowed s ≡ true → (m : Mem) → Neat s m → (e now : ℕ) → e < 2 ^ 64 → Y s (plan_epoch p s m e now)
 y_epoch p s allow m y e now l =
@@ -169,14 +170,13 @@ certs-from : (t : ℕ) (xs : List Activity) → All (λ c. t ≤ c.height) (thos
 certs-from t xs = all_sieved (λ _. Unit {0}) (λ c. t ≤ c.height) (λ c. leb t c.height) (λ c q _. leb-true t c.height q) (certs_in xs) (all_everything (certs_in xs))
 
 acks-small : (xs : List Activity) → All forms-Sized xs → All Formed (acks_in xs)
-acks-small [] l = tt
-acks-small (ack a ∷ xs) (k, l) = (formed top_height a k, acks-small xs l)
-acks-small (certified c ∷ xs) (k, l) = acks-small xs l
-acks-small (tip t ∷ xs) (k, l) = acks-small xs l
+acks-small [] l = All-nil Formed
+acks-small (ack a ∷ xs) l = All-cons Formed a (acks_in xs) (formed top_height a (All-head forms-Sized (ack a) xs l)) (acks-small xs (All-tail forms-Sized (ack a) xs l))
+acks-small (certified c ∷ xs) l = acks-small xs (All-tail forms-Sized (certified c) xs l)
+acks-small (tip t ∷ xs) l = acks-small xs (All-tail forms-Sized (tip t) xs l)
 
 both_hold : {X : Type 0} (P Q R : X → Type 0) → ((x : X) → P x → Q x → R x) → (xs : List X) → All P xs → All Q xs → All R xs
-both_hold P Q R h [] a b = tt
-both_hold P Q R h (x ∷ xs) (j, a) (k, b) = (h x j k, both_hold P Q R h xs a b)
+both_hold P Q R h xs a b k d l = h (get_or xs k d) (a k d l) (b k d l)
 
 own-sized : (p : Answers) (e h : ℕ) (acks : List Ack) → All Formed acks → DigestSized (own_digest p e acks h)
 own-sized p e h acks l =
@@ -190,25 +190,25 @@ module _ (p : Answers) (s : Settings) (allow : allowed s ≡ true) (e now room :
       let c7 = passed (too_far s f) 6 _ q in
       let c8 = passed (ltb 128 (strays p s e f)) 7 _ c7.1 in
       let far = or_parts (any (λ c. leb (t + s.window) c.height) f.certs) (any (λ a. leb (t + s.window) a.height) f.acks) c7.0 in
-      let certs-low : All (λ c. low s t ≤ c.height) f.certs = all-tabled (λ c. low s t ≤ c.height) cert_below [] _ tt (certs-from (low s t) xs) in
+      let certs-low : All (λ c. low s t ≤ c.height) f.certs = all-tabled (λ c. low s t ≤ c.height) cert_below [] _ (All-nil (λ c. low s t ≤ c.height)) (certs-from (low s t) xs) in
       let certs_high = all_none (λ c. leb (t + s.window) c.height) f.certs far.0 in
       let acks-low : All (λ a. (low s t ≤ a.height) × Formed a) f.acks =
       all_sieved Formed (λ a. (low s t ≤ a.height) × Formed a) (λ a. leb (low s t) a.height && not (any (λ c. eqb c.height a.height) (certs_left s xs)))
       (λ a g i. (leb-true (low s t) a.height (and_parts (leb (low s t) a.height) _ g).0, i)) (acks_in xs) (acks-small xs sized) in
       let acks-high = all_none (λ a. leb (t + s.window) a.height) f.acks far.1 in
       let near : All (λ a. InWindow s t a.height × Formed a) f.acks =
-      both_hold (λ a. (low s t ≤ a.height) × Formed a) (λ a. leb (t + s.window) a.height ≡ false) _ (λ a i j. ((i.0, leb-false (t + s.window) a.height j), i.1)) f.acks acks-low acks-high in
+      both_hold (λ a. (low s t ≤ a.height) × Formed a) (λ a. leb (t + s.window) a.height ≡ false) (λ a. InWindow s t a.height × Formed a) (λ a i j. ((i.0, leb-false (t + s.window) a.height j), i.1)) f.acks acks-low acks-high in
       record {
         same = refl;
         tidy = record {
           small = small;
           ordered = ascends-tabled [] (those (λ a. opt (own_digest p e f.acks a.height) true (λ d. bytes_eq d a.digest)) f.acks) tt;
-          near = all-tabled (λ a. InWindow s t a.height × Formed a) ack_below [] _ tt (all-those _ _ f.acks near);
+          near = all-tabled (λ a. InWindow s t a.height × Formed a) ack_below [] _ (All-nil (λ a. InWindow s t a.height × Formed a)) (all-those (λ a. InWindow s t a.height × Formed a) (λ a. opt (own_digest p e f.acks a.height) true (λ d. bytes_eq d a.digest)) f.acks near);
           few = ltb-false 128 (strays p s e f) c8.0;
           window = All-map (λ x. InWindow s t x.height × DigestSized x.verified) (λ h. record { height = h; verified = own_digest p e f.acks h }) (heights_left s f)
               (all-those (λ h. InWindow s t h × DigestSized (own_digest p e f.acks h)) (is_left f) (from (low s t) (t + s.window - low s t))
-              (all_from (λ h. InWindow s t h × DigestSized (own_digest p e f.acks h)) (low s t) (t + s.window - low s t) (λ h i j. ((i, omega arith), own-sized p e h f.acks (All-weaker _ Formed (λ a k. k.1) f.acks acks-low)))));
-          certified = both_hold (λ c. low s t ≤ c.height) (λ c. leb (t + s.window) c.height ≡ false) _ (λ c i j. (i, leb-false (t + s.window) c.height j)) f.certs certs-low certs_high;
+              (all_from (λ h. InWindow s t h × DigestSized (own_digest p e f.acks h)) (low s t) (t + s.window - low s t) (λ h i j. ((i, omega arith), own-sized p e h f.acks (All-weaker (λ a. (low s t ≤ a.height) × Formed a) Formed (λ a k. k.1) f.acks acks-low)))));
+          certified = both_hold (λ c. low s t ≤ c.height) (λ c. leb (t + s.window) c.height ≡ false) (λ c. InWindow s t c.height) (λ c i j. (i, leb-false (t + s.window) c.height j)) f.certs certs-low certs_high;
           told = all-keys (λ x. x.tip < 2 ^ 62) _ (keys_of p e) (λ k. omega arith);
         };
       }
@@ -231,7 +231,7 @@ y_opening p s x v o e now room l =
     y_or s (opening_refusal p s x e now) _ (λ q.
     let c2 = passed (not (is_shut x)) 1 _ q in
     let c3 = passed (not (allowed s)) 2 _ c2.1 in
-    y_from p s (not-false (allowed s) c3.0) e now room l [] o (those (before o) (reading v.sections)) tt)
+    y_from p s (not-false (allowed s) c3.0) e now room l [] o (those (before o) (reading v.sections)) (All-nil forms-Sized))
 
 -- every call
 pub y_plan : (p : Answers) → Lawful p → (s : Settings) (m : Mem) (k : Desk) (v : Log) (e : Event) → allowed s ≡ true → Neat s m → Sized e → Y s (plan p s (running m k) v None e)

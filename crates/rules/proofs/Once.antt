@@ -1,19 +1,20 @@
 -- In every run, no height's slip is handed out twice since an opening. Assumes nothing.
-use Rattle.std.proofs.Common.{◌≡◌, ℕ, ◌+◌, ◌<◌, ◌≤◌, Bool, true, false, cond, ◌&&◌, eqb, ◌⊎◌, List, [], ◌∷◌, ◌++◌, length, Some, None, All, Option, sym, refl, ap, ◌∙◌, subst, inl, inr, append_assoc, append-nil, arith}
+use Rattle.std.proofs.Common.{◌≡◌, ℕ, ◌+◌, ◌<◌, ◌≤◌, Bool, true, false, cond, ◌&&◌, eqb, ◌⊎◌, List, [], ◌∷◌, ◌++◌, Some, None, Option, sym, refl, ap, ◌∙◌, subst, inl, inr, append_assoc, append-nil, arith}
+use Rattle.std.specs.List.{AllByRecursion}
 use mathlib.Core.List.Memᴰ
 use mathlib.Core.List.{Memᴰ}
-use Rattle.rules.proofs.Flow.{Plain, Calm}
-use Rattle.rules.proofs.Calm.{by_cond, P, calm_opening, calm_epoch, calm_message, calm_due, calm_closing}
-use Rattle.rules.proofs.Grow.{Asc, asc_down, Onward, O, on_epoch, on_message, on_due, on_digest, on_cancel, on_close, Begins, Says, B, begins}
-use Rattle.rules.proofs.Slips.{never, pick, Returns, back, aside, Ret, ret_put, ret_digest, was_shut, balance}
+use Rattle.rules.proofs.Flow.{Calm}
+use Rattle.rules.proofs.Calm.{by_cond, calm_opening, calm_epoch, calm_message, calm_due, calm_closing}
+use Rattle.rules.proofs.Grow.{Asc, Onward, O, on_epoch, on_message, on_due, on_digest, on_cancel, on_close, Begins, Says, begins}
+use Rattle.rules.proofs.Slips.{never, Returns, back, aside, Ret, ret_put, ret_digest, was_shut, balance}
 use Rattle.journal.specs.Log.{Log}
 use Rattle.provider.specs.Answers.{Answers}
-use Rattle.rules.specs.Acts.{Act, hand_out, take_back, lodge, fetch, Ended, whole, full, below-bound, failed, off, Space, Did, at_desk}
-use Rattle.rules.specs.Calls.{plan, take_first, with_wanted, fetch_first, returned, put_by}
+use Rattle.rules.specs.Acts.{Act, hand_out, take_back, lodge, fetch, Ended, whole, full, below_bound, failed, off, Space, Did, at_desk}
+use Rattle.rules.specs.Calls.{plan, take_first, with_wanted, fetch_first, returned}
 use Rattle.rules.specs.Lists.{opt}
 use Rattle.rules.specs.Plans.{Event, opening, epoch_change, message, taking, fetching, handing_back, cancelling, lodging, due, closing, Answer, ok, refused, After, stays, runs, closes, Plan, refuse}
 use Rattle.rules.specs.Promises.{is_ok, is_opening, since_opening, handed_by, handed_out, Distinct, SlipsLaw}
-use Rattle.rules.specs.Runs.{Sys, settle, Ends, Call, Deed, called, cut, Run, start, call, power_cut, is_off}
+use Rattle.rules.specs.Runs.{Sys, settle, Ends, Deed, called, Run, start, call, power_cut, is_off}
 use Rattle.rules.specs.State.{Settings, Mem, Desk, Engine, shut, running, halted, desk_of, next}
 
 handed_append : (xs ys : List Act) → handed_out (xs ++ ys) ≡ handed_out xs ++ handed_out ys
@@ -22,7 +23,7 @@ handed_append (a ∷ xs) ys = ap (λ l. handed_by a ++ l) (handed_append xs ys) 
 
 -- acts that hand nothing out
 abbrev Silent : List Act → Type 0
-Silent acts = All (λ a. handed_by a ≡ []) acts
+Silent acts = AllByRecursion (λ a. handed_by a ≡ []) acts
 
 calm_silent : (acts : List Act) → Calm acts → Silent acts
 calm_silent [] c = tt
@@ -87,7 +88,7 @@ quiet p s x v (lodging h) q = silent-returned x h _ (λ m. ret_put m h ok)
 -- the heights handed out lie below those that are wanted
 abbrev Room : Engine → List ℕ → Type 0
 Room shut taken = Unit {0}
-Room (running m k) taken = (b : ℕ) × All (λ h. h < b) taken × Asc b m.wanted (next m)
+Room (running m k) taken = (b : ℕ) × AllByRecursion (λ h. h < b) taken × Asc b m.wanted (next m)
 Room (halted k) taken = Unit {0}
 
 abbrev Dull : After → Type 0
@@ -153,17 +154,17 @@ room_settled closes (running m k) j a taken o n r = tt
 room_settled closes (halted k) j a taken o n r = tt
 
 -- one more, above all others
-above-all : (b h : ℕ) (taken : List ℕ) → b ≤ h → All (λ x. x < b) taken → All (λ x. x < h + 1) (taken ++ (h ∷ []))
+above-all : (b h : ℕ) (taken : List ℕ) → b ≤ h → AllByRecursion (λ x. x < b) taken → AllByRecursion (λ x. x < h + 1) (taken ++ (h ∷ []))
 above-all b h [] e q = (omega arith, tt)
 above-all b h (x ∷ taken) e (p, q) = (omega arith, above-all b h taken e q)
 
-not_among : (b h : ℕ) (taken : List ℕ) → b ≤ h → All (λ x. x < b) taken → Memᴰ h taken → ⊥
-not_among b h [] e q m = absurd (Memᴰ.not_nil m)
+not_among : (b h : ℕ) (taken : List ℕ) → b ≤ h → AllByRecursion (λ x. x < b) taken → Memᴰ h taken → ⊥
+not_among b h [] e q m = absurd (Memᴰ.not-nil m)
 not_among b h (x ∷ taken) e (p, q) (Memᴰ.head u) = omega arith
 not_among b h (x ∷ taken) e (p, q) (Memᴰ.tail m) = not_among b h taken e q m
 
-distinct_more : (b h : ℕ) (taken : List ℕ) → b ≤ h → All (λ x. x < b) taken → Distinct taken → Distinct (taken ++ (h ∷ []))
-distinct_more b h [] e q u = (λ m. Memᴰ.not_nil m, tt)
+distinct_more : (b h : ℕ) (taken : List ℕ) → b ≤ h → AllByRecursion (λ x. x < b) taken → Distinct taken → Distinct (taken ++ (h ∷ []))
+distinct_more b h [] e q u = (λ m. Memᴰ.not-nil m, tt)
 distinct_more b h (x ∷ taken) e (p, q) (f, u) =
     (λ m. elim (Memᴰ.append_cases taken m) [ inl l ↦ f l | inr l ↦ let z = Memᴰ.eq_of_singleton l in omega arith ], distinct_more b h taken e q u)
 
@@ -193,7 +194,7 @@ other_fine r pl x j a y done taken n e o g (q, c) = subst (Fine y) (sym (ap (λ 
     room : (r : Ended) → (r ≡ whole → x ≡ shut → Dull pl.after) → Ends r pl x j a y → Room y taken
     room whole o (u, t) = subst (λ z. Room z taken) (sym t) (room_settled pl.after x j pl.answer taken (o refl) g c)
     room full o (_, t) = subst (λ z. Room z taken) (sym t) tt
-    room below-bound o (_, t) = subst (λ z. Room z taken) (sym t) tt
+    room below_bound o (_, t) = subst (λ z. Room z taken) (sym t) tt
     room failed o (_, t) = subst (λ z. Room z taken) (sym t) tt
     room off o (_, t) = subst (λ z. Room z taken) (sym t) tt
 
@@ -255,7 +256,7 @@ opened_fine p s (running m k) v e r j a y n o q = let z : ◌≡◌ {A = ℕ} 0 
 opened_fine p s (halted k) v e r j a y n o q = let z : ◌≡◌ {A = ℕ} 0 1 = cc in absurd (omega arith)
 opened_fine p s shut v (opening e now room) whole j a y (_, u) o q = subst (λ z. Room z []) (sym u) (room-begins (plan p s shut v None (opening e now room)).after j (begins p s shut v None e now room).start)
 opened_fine p s shut v (opening e now room) full j a y (_, u) o q = subst (λ z. Room z []) (sym u) tt
-opened_fine p s shut v (opening e now room) below-bound j a y (_, u) o q = subst (λ z. Room z []) (sym u) tt
+opened_fine p s shut v (opening e now room) below_bound j a y (_, u) o q = subst (λ z. Room z []) (sym u) tt
 opened_fine p s shut v (opening e now room) failed j a y (_, u) o q = subst (λ z. Room z []) (sym u) tt
 opened_fine p s shut v (opening e now room) off j a y (_, u) o q = subst (λ z. Room z []) (sym u) tt
 opened_fine p s shut v (epoch_change e now) r j a y n o q = never refl o
@@ -294,7 +295,7 @@ steps : (r : Ended) (p : Answers) (s : Settings) (fits : Space) (x : Engine) (v 
     Inv x past → Did fits (plan p s x v None e).acts v (desk_of x) r done w j → Ends r (plan p s x v None e) x j a y → Inv y (called r e a done ∷ past)
 steps whole p s fits x v e a done y w j past i d n = step p s fits x v e a done y w whole j past i d n refl
 steps full p s fits x v e a done y w j past i d n = step p s fits x v e a done y w full j past i d n refl
-steps below-bound p s fits x v e a done y w j past i d n = step p s fits x v e a done y w below-bound j past i d n refl
+steps below_bound p s fits x v e a done y w j past i d n = step p s fits x v e a done y w below_bound j past i d n refl
 steps failed p s fits x v e a done y w j past i d n = step p s fits x v e a done y w failed j past i d n refl
 steps off p s fits x v e a done y w j past i d n = λ acts q. let z : ◌≡◌ {A = ℕ} 0 1 = cc in absurd (omega arith)
 

@@ -1,5 +1,5 @@
 -- An opening makes a memory that keeps the invariant with its journal. Assumes nothing.
-use Rattle.std.proofs.Common.{◌≡◌, ℕ, zero, suc, ◌+◌, ◌-◌, ◌^◌, ◌<◌, ◌≤◌, Bool, true, false, cond, not, ◌&&◌, ◌||◌, eqb, ltb, leb, ◌⊎◌, List, [], ◌∷◌, ◌++◌, map, length, is_some, Some, None, Ok, Err, Option, sym, refl, ap, ◌∙◌, subst, inl, inr, arith, ltb-true, eq-eqb, eqb-true, leb-false, leb-true}
+use Rattle.std.proofs.Common.{◌≡◌, ℕ, zero, suc, ◌+◌, ◌-◌, ◌^◌, ◌<◌, ◌≤◌, Bool, true, false, not, ◌&&◌, eqb, leb, ◌⊎◌, List, [], ◌∷◌, ◌++◌, map, Some, None, Option, sym, refl, ap, ◌∙◌, subst, inl, inr, arith, eq-eqb, eqb-true, leb-false, leb-true}
 use mathlib.Core.List.Memᴰ
 use mathlib.Core.List.{Memᴰ}
 use Rattle.std.proofs.lemmas.Bool.{cond_both, cases_lt, cases_Bool, le-leb, and_parts, and_from, or_parts, or_left, not-false, not-true, both_ways}
@@ -11,18 +11,18 @@ use Rattle.journal.specs.Log.{Log, Bytes, Placed, reading, all_synced}
 use Rattle.provider.specs.Answers.{Answers}
 use Rattle.provider.specs.Laws.{Lawful}
 use Rattle.rules.specs.Lists.{those, first, any, opt, highest, from, placed}
-use Rattle.rules.specs.State.{Seat, Pending, Settings, allowed, Mem, Engine, shut, low, ack_below}
-use Rattle.rules.specs.Acts.{Act, read, tell, hear, sign}
-use Rattle.rules.specs.Rules.{own, fill}
+use Rattle.rules.specs.State.{Seat, Pending, Settings, allowed, Mem, shut, low, ack_below}
+use Rattle.rules.specs.Acts.{Act, read, tell}
+use Rattle.rules.specs.Rules.{own}
 use Rattle.rules.specs.Plans.{After, stays, runs, closes, Plan, Answer, refused, bad_record, or_refuse}
-use Rattle.rules.specs.Opening.{keys_of, tips_in, certs_in, acks_in, tabled, top_of, cert_below, certs_left, acks_left, Found, found, is_of, own_digest, kept_acks, end_of, is_left, heights_left, opened_over, opened, too_far, found_tests, found_refusal, open_with, unreadable, at_end, open_from, before, opening_tests, opening_refusal, plan_opening}
+use Rattle.rules.specs.Opening.{keys_of, tips_in, certs_in, acks_in, tabled, top_of, cert_below, certs_left, acks_left, found, is_of, own_digest, kept_acks, is_left, heights_left, opened, too_far, found_tests, found_refusal, open_with, unreadable, open_from, before, opening_tests, opening_refusal, plan_opening}
 use Rattle.rules.proofs.Grow.{high_base}
 use Rattle.rules.proofs.Members.{those_in, in_those, placed_in, placed-here, first_in, first_none, any_in, in_any, map_in_lem, of_height, any-placed, from_in, in_from}
-use Rattle.rules.proofs.Recs.{In, Dur, in_all, all_in, new-all, dur_in, reading_in, in_reading}
+use Rattle.rules.proofs.Recs.{In, all_in, new-all, dur_in, reading_in, in_reading}
 use Rattle.rules.proofs.Wp.{WP, wp_more}
-use Rattle.rules.proofs.Ledger.{Small, further, Own, Source, Rec, RecD, JInv, hush, less}
+use Rattle.rules.proofs.Ledger.{Rec, RecD, JInv, hush, less}
 use Rattle.rules.proofs.Entries.{Back, same-entry, tells, source_of}
-use Rattle.rules.proofs.Memory.{Core, core, end, SizedDigest, Sourced, Inv, stop_sync}
+use Rattle.rules.proofs.Memory.{core, end, SizedDigest, Inv, stop_sync}
 use Rattle.rules.proofs.Moves.{apart}
 use Rattle.rules.proofs.Keeps.{opt_both}
 use Rattle.rules.proofs.Digests.{high_of}
@@ -30,14 +30,14 @@ use Rattle.rules.proofs.Events.{high_under, all_clear, read_both, filled}
 
 -- what the lists of a journal's activities hold
 pub tips_there : (t : ℕ) (xs : List Activity) → Memᴰ t (tips_in xs) → Memᴰ (tip t) xs
-tips_there t [] m = absurd (Memᴰ.not_nil m)
+tips_there t [] m = absurd (Memᴰ.not-nil m)
 tips_there t (ack a ∷ xs) m = Memᴰ.tail (tips_there t xs m)
 tips_there t (certified c ∷ xs) m = Memᴰ.tail (tips_there t xs m)
 tips_there t (tip k ∷ xs) (Memᴰ.head e) = Memᴰ.head (ap tip e)
 tips_there t (tip k ∷ xs) (Memᴰ.tail m) = Memᴰ.tail (tips_there t xs m)
 
 pub there_tips : (t : ℕ) (xs : List Activity) → Memᴰ (tip t) xs → Memᴰ t (tips_in xs)
-there_tips t [] m = absurd (Memᴰ.not_nil m)
+there_tips t [] m = absurd (Memᴰ.not-nil m)
 there_tips t (ack a ∷ xs) (Memᴰ.head e) = apart (cc)
 there_tips t (ack a ∷ xs) (Memᴰ.tail m) = there_tips t xs m
 there_tips t (certified c ∷ xs) (Memᴰ.head e) = apart (cc)
@@ -46,14 +46,14 @@ there_tips t (tip k ∷ xs) (Memᴰ.head e) = Memᴰ.head (cc)
 there_tips t (tip k ∷ xs) (Memᴰ.tail m) = Memᴰ.tail (there_tips t xs m)
 
 certs_there : (c : Cert) (xs : List Activity) → Memᴰ c (certs_in xs) → Memᴰ (certified c) xs
-certs_there c [] m = absurd (Memᴰ.not_nil m)
+certs_there c [] m = absurd (Memᴰ.not-nil m)
 certs_there c (ack a ∷ xs) m = Memᴰ.tail (certs_there c xs m)
 certs_there c (tip t ∷ xs) m = Memᴰ.tail (certs_there c xs m)
 certs_there c (certified k ∷ xs) (Memᴰ.head e) = Memᴰ.head (ap certified e)
 certs_there c (certified k ∷ xs) (Memᴰ.tail m) = Memᴰ.tail (certs_there c xs m)
 
 there_certs : (c : Cert) (xs : List Activity) → Memᴰ (certified c) xs → Memᴰ c (certs_in xs)
-there_certs c [] m = absurd (Memᴰ.not_nil m)
+there_certs c [] m = absurd (Memᴰ.not-nil m)
 there_certs c (ack a ∷ xs) (Memᴰ.head e) = apart (cc)
 there_certs c (ack a ∷ xs) (Memᴰ.tail m) = there_certs c xs m
 there_certs c (tip t ∷ xs) (Memᴰ.head e) = apart (cc)
@@ -62,14 +62,14 @@ there_certs c (certified k ∷ xs) (Memᴰ.head e) = Memᴰ.head (cc)
 there_certs c (certified k ∷ xs) (Memᴰ.tail m) = Memᴰ.tail (there_certs c xs m)
 
 acks_there : (a : Ack) (xs : List Activity) → Memᴰ a (acks_in xs) → Memᴰ (ack a) xs
-acks_there a [] m = absurd (Memᴰ.not_nil m)
+acks_there a [] m = absurd (Memᴰ.not-nil m)
 acks_there a (certified c ∷ xs) m = Memᴰ.tail (acks_there a xs m)
 acks_there a (tip t ∷ xs) m = Memᴰ.tail (acks_there a xs m)
 acks_there a (ack k ∷ xs) (Memᴰ.head e) = Memᴰ.head (ap ack e)
 acks_there a (ack k ∷ xs) (Memᴰ.tail m) = Memᴰ.tail (acks_there a xs m)
 
 there_acks : (a : Ack) (xs : List Activity) → Memᴰ (ack a) xs → Memᴰ a (acks_in xs)
-there_acks a [] m = absurd (Memᴰ.not_nil m)
+there_acks a [] m = absurd (Memᴰ.not-nil m)
 there_acks a (certified c ∷ xs) (Memᴰ.head e) = apart (cc)
 there_acks a (certified c ∷ xs) (Memᴰ.tail m) = there_acks a xs m
 there_acks a (tip t ∷ xs) (Memᴰ.head e) = apart (cc)
@@ -90,7 +90,7 @@ any-kept h table [] e = e
 any-kept h table (c ∷ l) e = any-kept h (placed cert_below c table) l (any-placed h c table e)
 
 any-tabled : (c : Cert) (table l : List Cert) → Memᴰ c l → any (of_height c.height) (tabled cert_below table l) ≡ true
-any-tabled c table [] m = absurd (Memᴰ.not_nil m)
+any-tabled c table [] m = absurd (Memᴰ.not-nil m)
 any-tabled c table (x ∷ l) (Memᴰ.head e) =
     any-kept c.height (placed cert_below x table) l (in_any (of_height c.height) x _ (eq-eqb x.height c.height (ap (λ z. z.height) (sym e))) (placed-here cert_below x table))
 any-tabled c table (x ∷ l) (Memᴰ.tail m) = any-tabled c (placed cert_below x table) l m
@@ -132,7 +132,7 @@ module _ (back : Back) (p : Answers) (law : Lawful p) (s : Settings) (g : Bool) 
 
     certs_high : (c : Cert) → Memᴰ c (certs_left s xs) → c.height < 2 ^ 62
     certs_high c n = elim (tabled_in cert_below c [] _ n) [
-      | inl u ↦ absurd (Memᴰ.not_nil u)
+      | inl u ↦ absurd (Memᴰ.not-nil u)
       | inr u ↦ (all (certified c) (certs_there c xs (those_in (λ (d : Cert). leb (low s (top_of xs)) d.height) c (certs_in xs) u).0)).0.high
     ]
 
@@ -155,7 +155,7 @@ module _ (back : Back) (p : Answers) (law : Lawful p) (s : Settings) (g : Bool) 
 
     kept-left : (a : Ack) → Memᴰ a (kept_acks p e (acks_left s xs)) → Memᴰ a (acks_left s xs)
     kept-left a n = elim (tabled_in ack_below a [] _ n) [
-      | inl u ↦ absurd (Memᴰ.not_nil u)
+      | inl u ↦ absurd (Memᴰ.not-nil u)
       | inr u ↦ (those_in (λ (b : Ack). opt (own_digest p e (acks_left s xs) b.height) true (λ d. bytes_eq d b.digest)) a (acks_left s xs) u).0
     ]
 
@@ -226,7 +226,7 @@ module _ (back : Back) (p : Answers) (law : Lawful p) (s : Settings) (g : Bool) 
         ]
       where
         mapped : (h : ℕ) (l : List ℕ) → Memᴰ h l → Memᴰ (entry h) (map entry l)
-        mapped h [] n = absurd (Memᴰ.not_nil n)
+        mapped h [] n = absurd (Memᴰ.not-nil n)
         mapped h (x ∷ l) (Memᴰ.head f) = Memᴰ.head (ap entry f)
         mapped h (x ∷ l) (Memᴰ.tail n) = Memᴰ.tail (mapped h l n)
 
@@ -310,7 +310,7 @@ module _ (back : Back) (p : Answers) (law : Lawful p) (s : Settings) (g : Bool) 
 
     from_all : (xs : List Activity) (rs : List Placed) → ((x : Activity) → Memᴰ x xs → Rec p s g x v) → ((r : Placed) → Memᴰ r rs → In r.section r.bytes v) →
         ((x : Activity) → Rec p s g x v → Memᴰ x xs ⊎ ((r : Placed) × Memᴰ r rs × (r.bytes ≡ write x))) → Opens hist v (open_from p s e now room xs None rs)
-    from_all xs [] all here only = with_all xs all (λ x r. elim (only x r) [ inl n ↦ n | inr n ↦ absurd (Memᴰ.not_nil n.1) ])
+    from_all xs [] all here only = with_all xs all (λ x r. elim (only x r) [ inl n ↦ n | inr n ↦ absurd (Memᴰ.not-nil n.1) ])
     from_all xs (r ∷ rs) all here only =
         read_both (Opens hist v) (forms.read r.bytes) _ _ (λ w _. just_read (bad_record r.section r.number w))
         (λ y q.
@@ -338,7 +338,7 @@ module _ (back : Back) (p : Answers) (law : Lawful p) (s : Settings) (g : Bool) 
       go : (n : ℕ) → opening_refusal p s shut e now ≡ n → Opens hist v (or_refuse n (open_from p s e now room [] None (those (before None) (reading v.sections))))
       go zero q =
           let f = fit q in
-          from_all hist v j room f.0 f.1 le [] (those (before None) (reading v.sections)) (λ x n. absurd (Memᴰ.not_nil n))
+          from_all hist v j room f.0 f.1 le [] (those (before None) (reading v.sections)) (λ x n. absurd (Memᴰ.not-nil n))
           (λ r n. reading_in v r (those_in (before None) r (reading v.sections) n).0)
           (λ x z. (let r = in_reading _ _ v z.1 in inr (r.0, in_those (before None) r.0 (reading v.sections) refl r.1, r.3)))
       go (suc n) q = j

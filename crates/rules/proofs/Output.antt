@@ -1,7 +1,8 @@
 -- What acts write, and how long it is. Assumes nothing.
-use Rattle.std.proofs.Common.{◌≡◌, ℕ, zero, suc, ◌+◌, ◌^◌, ◌<◌, ◌≤◌, Bool, true, false, cond, not, ◌||◌, eqb, ltb, leb, ◌⊎◌, List, [], ◌∷◌, ◌++◌, map, length, is_some, Some, None, All, Option, sym, refl, ap, ◌∙◌, subst, inl, inr, ⊎_elim, arith, length-append}
+use Rattle.std.proofs.Common.{◌≡◌, ℕ, zero, suc, ◌+◌, ◌^◌, ◌<◌, ◌≤◌, Bool, true, false, cond, not, ◌||◌, eqb, ltb, leb, ◌⊎◌, List, [], ◌∷◌, ◌++◌, map, length, is_some, Some, None, Option, sym, refl, ap, ◌∙◌, subst, inl, inr, ⊎_elim, arith, length-append, All}
+use Rattle.std.proofs.lemmas.List.Elements.{All-head, All-tail}
 use Rattle.std.proofs.lemmas.Bool.{cond_both, cases_Bool, both_ways, eqb-true, eq-eqb, ne_eqb, leb-true, leb-false, le-leb, or_parts, or_left, or_right, not-false}
-use Rattle.forms.specs.Values.{Ack, Cert, ack, certified, tip}
+use Rattle.forms.specs.Values.{Ack, Cert, certified, tip}
 use Rattle.forms.proofs.Spelling.{spell-few}
 use Rattle.forms.proofs.Lengths.{length-ack, length-certified, length-tip, length-message}
 use Rattle.tips.specs.Faults.{quorum}
@@ -86,12 +87,17 @@ any-those p q h (x ∷ xs) e = go (p x) refl (any-those p q h xs)
 
 any_below : (h n : ℕ) (cs : List Cert) → All (λ c. c.height < n) cs → any (λ c. eqb c.height h) cs ≡ true → h < n
 any_below h n [] l e = let z : ◌≡◌ {A = ℕ} 0 1 = cc in absurd (omega arith)
-any_below h n (c ∷ cs) (k, l) e =
-    ⊎_elim (λ f. let u = eqb-true c.height h f in omega arith) (λ f. any_below h n cs l (ap (λ z. z || any (λ c. eqb c.height h) cs) (sym f) ∙ e)) (cases_Bool (eqb c.height h))
+any_below h n (c ∷ cs) l e =
+    let P : Cert → Type 0 = λ c. c.height < n in
+    let k = All-head P c cs l in
+    ⊎_elim (λ f. let u = eqb-true c.height h f in omega arith) (λ f. any_below h n cs (All-tail P c cs l) (ap (λ z. z || any (λ c. eqb c.height h) cs) (sym f) ∙ e)) (cases_Bool (eqb c.height h))
 
 none_first : {X : Type 0} (p : X → Bool) (xs : List X) → All (λ x. p x ≡ false) xs → is_some (first p xs) ≡ false
 none_first p [] l = refl
-none_first p (x ∷ xs) (k, l) = ap (λ z. is_some (cond z (Some x) (first p xs))) k ∙ none_first p xs l
+none_first p (x ∷ xs) l =
+    let k = All-head (λ x. p x ≡ false) x xs l in
+    let r = All-tail (λ x. p x ≡ false) x xs l in
+    ap (λ z. is_some (cond z (Some x) (first p xs))) k ∙ none_first p xs r
 
 free-below : (n t : ℕ) (m : Mem) → t ≤ top → All (λ c. c.height < top) m.certs → first_free n t m ≤ top
 free-below zero t m l a = l

@@ -1,5 +1,6 @@
 -- How many elements of a list there can be, by what they are counted by. Assumes nothing.
-use Rattle.std.proofs.Common.{◌≡◌, ℕ, zero, suc, ◌+◌, ◌*◌, ◌<◌, ◌≤◌, Bool, true, false, cond, not, ◌&&◌, ltb, ◌⊎◌, List, [], ◌∷◌, length, All, refl, subst, inl, inr, ⊎_elim, suc-mul, arith}
+use Rattle.std.proofs.Common.{◌≡◌, ℕ, zero, suc, ◌+◌, ◌*◌, ◌<◌, ◌≤◌, Bool, true, false, cond, not, ◌&&◌, ltb, ◌⊎◌, List, [], ◌∷◌, length, refl, subst, inl, inr, ⊎_elim, suc-mul, arith, All}
+use Rattle.std.proofs.lemmas.List.Elements.{All-head, All-tail}
 use Rattle.std.proofs.lemmas.Bool.{lt-ltb, ltb-true, cases_lt, cond_both, and_parts}
 use Rattle.rules.specs.Lists.{those, placed}
 use Rattle.rules.specs.Room.{count}
@@ -23,12 +24,12 @@ module _ {X : Type 0} where
   pub count_split : (P : X → Type 0) (q a b : X → Bool) → ((x : X) → P x → q x ≡ true → (a x ≡ true) ⊎ (b x ≡ true)) → (xs : List X) → All P xs →
       count q xs ≤ count a xs + count b xs
   count_split P q a b h [] l = omega arith
-  count_split P q a b h (x ∷ xs) (k, l) =
-      omega (arith, one q x xs, one a x xs, one b x xs, weigh (q x) (a x) (b x) (h x k), count_split P q a b h xs l)
+  count_split P q a b h (x ∷ xs) l =
+      omega (arith, one q x xs, one a x xs, one b x xs, weigh (q x) (a x) (b x) (h x (All-head P x xs l)), count_split P q a b h xs (All-tail P x xs l))
 
   pub count_none : (P : X → Type 0) (q : X → Bool) → ((x : X) → P x → q x ≡ true → ⊥) → (xs : List X) → All P xs → count q xs ≡ 0
   count_none P q h [] l = refl
-  count_none P q h (x ∷ xs) (k, l) = omega (arith, one q x xs, count_none P q h xs l, zeroed (q x) (h x k))
+  count_none P q h (x ∷ xs) l = omega (arith, one q x xs, count_none P q h xs (All-tail P x xs l), zeroed (q x) (h x (All-head P x xs l)))
     where
       zeroed : (b : Bool) → (b ≡ true → ⊥) → ◌≡◌ {A = ℕ} (cond b 1 0) 0
       zeroed true f = absurd (f refl)

@@ -1,5 +1,5 @@
 -- Which records stand in a journal, and which of them are durable, after each operation and after a cut. Assumes nothing.
-use Rattle.std.proofs.Common.{◌≡◌, ℕ, zero, suc, ◌+◌, ◌<◌, ◌≤◌, Bool, true, false, cond, eqb, ltb, ◌⊎◌, List, [], ◌∷◌, ◌++◌, map, length, take, sym, refl, ap, ◌∙◌, subst, inl, inr, arith, ltb-false, ltb-true, eqb-true}
+use Rattle.std.proofs.Common.{◌≡◌, ℕ, zero, suc, ◌<◌, ◌≤◌, Bool, true, false, cond, eqb, ltb, ◌⊎◌, List, [], ◌∷◌, ◌++◌, map, length, take, sym, refl, ap, ◌∙◌, subst, inl, inr, arith, ltb-true, eqb-true}
 use mathlib.Core.List.Memᴰ
 use mathlib.Core.List.{Memᴰ}
 use borrow.Author.Tests.{eqb-false}
@@ -121,7 +121,7 @@ solid x b m = m
 
 solid_in : (x : Section) (b : Bytes) → Memᴰ b (every (firm x)) → Memᴰ b (every x)
 unfolding firm all_of
-solid_in x b m = elim (Memᴰ.append_cases (every x) m) [ inl u ↦ u | inr u ↦ absurd (Memᴰ.not_nil u) ]
+solid_in x b m = elim (Memᴰ.append_cases (every x) m) [ inl u ↦ u | inr u ↦ absurd (Memᴰ.not-nil u) ]
 
 in_solid : (x : Section) (b : Bytes) → Memᴰ b (every x) → Memᴰ b (every (firm x))
 unfolding firm all_of
@@ -214,7 +214,7 @@ pruned_in t s b v i = from_has every t s b v.sections i
 
 -- more of it durable
 longer : (b : Bytes) (xs ys k l : List Bytes) → ys ++ l ≡ xs ++ k → length xs ≤ length ys → Memᴰ b xs → Memᴰ b ys
-longer b [] ys k l e h m = absurd (Memᴰ.not_nil m)
+longer b [] ys k l e h m = absurd (Memᴰ.not-nil m)
 longer b (x ∷ xs) [] k l e h m = absurd (omega arith)
 longer b (x ∷ xs) (y ∷ ys) k l e h (Memᴰ.head q) = let f : y ≡ x = cc in Memᴰ.head (q ∙ sym f)
 longer b (x ∷ xs) (y ∷ ys) k l e h (Memᴰ.tail m) = let f : ys ++ l ≡ xs ++ k = cc in Memᴰ.tail (longer b xs ys k l f (omega arith) m)
@@ -256,14 +256,14 @@ dur_firmer s b v w f i = firmer_durable s b v.sections w.sections f.sections i
 
 -- a cut
 taken : (b : Bytes) (k : ℕ) (xs : List Bytes) → Memᴰ b (take k xs) → Memᴰ b xs
-taken b zero xs m = absurd (Memᴰ.not_nil m)
-taken b (suc k) [] m = absurd (Memᴰ.not_nil m)
+taken b zero xs m = absurd (Memᴰ.not-nil m)
+taken b (suc k) [] m = absurd (Memᴰ.not-nil m)
 taken b (suc k) (x ∷ xs) (Memᴰ.head e) = Memᴰ.head e
 taken b (suc k) (x ∷ xs) (Memᴰ.tail m) = Memᴰ.tail (taken b k xs m)
 
 picked : (b : Bytes) (xs ys : List Bytes) → SomeOf xs ys → Memᴰ b ys → Memᴰ b xs
 unfolding SomeOf
-picked b [] ys e m = absurd (Memᴰ.not_nil (subst (Memᴰ b) e m))
+picked b [] ys e m = absurd (Memᴰ.not-nil (subst (Memᴰ b) e m))
 picked b (x ∷ xs) ys (inl f) m = Memᴰ.tail (picked b xs ys f m)
 picked b (x ∷ xs) ys (inr (zs, e, f)) m = here (subst (Memᴰ b) e m) (λ n. picked b xs zs f n)
   where
@@ -285,12 +285,12 @@ dur_left below x ys b (inr (l, _)) m = inr l
 kept_has : (s n : ℕ) (b : Bytes) (ys : List Bytes) (rest : List Section) → Has every s b (kept n ys rest) → ((n ≡ s) × Memᴰ b ys) ⊎ Has every s b rest
 unfolding kept
 kept_has s n b [] rest i = inr i
-kept_has s n b (y ∷ ys) rest (inl u) = inl (u.0, elim (Memᴰ.append_cases (y ∷ ys) u.1) [ inl m ↦ m | inr m ↦ absurd (Memᴰ.not_nil m) ])
+kept_has s n b (y ∷ ys) rest (inl u) = inl (u.0, elim (Memᴰ.append_cases (y ∷ ys) u.1) [ inl m ↦ m | inr m ↦ absurd (Memᴰ.not-nil m) ])
 kept_has s n b (y ∷ ys) rest (inr u) = inr u
 
 has_kept : (f : Section → List Bytes) → ((x : Section) (b : Bytes) → Memᴰ b x.durable → Memᴰ b (f x)) → (s n : ℕ) (b : Bytes) (ys : List Bytes) (rest : List Section) → ((n ≡ s) × Memᴰ b ys) ⊎ Has f s b rest → Has f s b (kept n ys rest)
 unfolding kept
-has_kept f g s n b [] rest (inl u) = absurd (Memᴰ.not_nil u.1)
+has_kept f g s n b [] rest (inl u) = absurd (Memᴰ.not-nil u.1)
 has_kept f g s n b [] rest (inr u) = u
 has_kept f g s n b (y ∷ ys) rest (inl u) = inl (u.0, g _ b u.1)
 has_kept f g s n b (y ∷ ys) rest (inr u) = inr u
@@ -337,19 +337,19 @@ cut_keeps below s b v w c i = all-left-keeps below s b v.sections w.sections c.s
 -- the records in reading order are those that stand there
 numbered_has : (s n : ℕ) (bs : List Bytes) (r : Placed) → Memᴰ r (numbered s n bs) → (r.section ≡ s) × Memᴰ r.bytes bs
 unfolding numbered
-numbered_has s n [] r m = absurd (Memᴰ.not_nil m)
+numbered_has s n [] r m = absurd (Memᴰ.not-nil m)
 numbered_has s n (b ∷ bs) r (Memᴰ.head e) = (ap (λ x. x.section) e, Memᴰ.head (ap (λ x. x.bytes) e))
 numbered_has s n (b ∷ bs) r (Memᴰ.tail m) = let i = numbered_has s (suc n) bs r m in (i.0, Memᴰ.tail i.1)
 
 has_numbered : (s n : ℕ) (bs : List Bytes) (b : Bytes) → Memᴰ b bs → (r : Placed) × Memᴰ r (numbered s n bs) × (r.section ≡ s) × (r.bytes ≡ b)
 unfolding numbered
-has_numbered s n [] b m = absurd (Memᴰ.not_nil m)
+has_numbered s n [] b m = absurd (Memᴰ.not-nil m)
 has_numbered s n (c ∷ bs) b (Memᴰ.head e) = (record { section = s; number = n; bytes = c }, Memᴰ.head refl, refl, sym e)
 has_numbered s n (c ∷ bs) b (Memᴰ.tail m) = let i = has_numbered s (suc n) bs b m in (i.0, Memᴰ.tail i.1, i.2, i.3)
 
 read_has : (xs : List Section) (r : Placed) → Memᴰ r (reading xs) → Has every r.section r.bytes xs
 unfolding reading all_of
-read_has [] r m = absurd (Memᴰ.not_nil m)
+read_has [] r m = absurd (Memᴰ.not-nil m)
 read_has (x ∷ xs) r m =
     elim (Memᴰ.append_cases (numbered x.number 0 (every x)) m) [
       | inl u ↦ (let i = numbered_has x.number 0 (every x) r u in inl (sym i.0, i.1))

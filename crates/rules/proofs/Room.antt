@@ -1,5 +1,5 @@
 -- Why 512 places are enough for the stored acks. Assumes nothing.
-use Rattle.std.proofs.Common.{◌≡◌, ℕ, ◌+◌, ◌-◌, ◌*◌, ◌<◌, ◌≤◌, Bool, true, false, cond, not, ◌&&◌, eqb, leb, ◌⊎◌, List, length, None, All, sym, refl, ap, ◌∙◌, subst, inl, inr, arith}
+use Rattle.std.proofs.Common.{◌≡◌, ℕ, ◌+◌, ◌-◌, ◌*◌, ◌<◌, ◌≤◌, Bool, true, false, cond, not, ◌&&◌, eqb, leb, ◌⊎◌, List, length, None, sym, refl, ap, ◌∙◌, subst, inl, inr, arith, All}
 use Rattle.std.proofs.lemmas.Bool.{leb-true, and_parts, eq-eqb}
 use Rattle.std.proofs.lemmas.Bool.Decides.{nat_tests}
 use Rattle.forms.specs.Values.{Ack}
@@ -9,7 +9,7 @@ use Rattle.provider.specs.Laws.{Lawful}
 use Rattle.rules.specs.Lists.{placed}
 use Rattle.rules.specs.State.{Settings, allowed, Mem, Desk, Engine, shut, running, halted, low, ack_below}
 use Rattle.rules.specs.Rules.{with_acks}
-use Rattle.rules.specs.Acts.{Ended, whole, full, below-bound, failed, off}
+use Rattle.rules.specs.Acts.{Ended, whole, full, below_bound, failed, off}
 use Rattle.rules.specs.Plans.{Event, opening, epoch_change, message, taking, fetching, handing_back, cancelling, lodging, due, closing, Answer, After, stays, runs, closes, refuse}
 use Rattle.rules.specs.Opening.{is_of}
 use Rattle.rules.specs.Calls.{plan}
@@ -121,7 +121,7 @@ left : (p : Answers) → Lawful p → (s : Settings) (x : Engine) (v : Log) (e :
     Inv s x → Sized e → Ends r (plan p s x v None e) x k a y → Inv s y
 left p l s x v e whole k a y i z (_, u) = subst (Inv s) (sym u) (settled s (plan p s x v None e).after x k i (planned p l s x v e i z))
 left p l s x v e full k a y i z (_, u) = subst (Inv s) (sym u) tt
-left p l s x v e below-bound k a y i z (_, u) = subst (Inv s) (sym u) tt
+left p l s x v e below_bound k a y i z (_, u) = subst (Inv s) (sym u) tt
 left p l s x v e failed k a y i z (_, u) = subst (Inv s) (sym u) tt
 left p l s x v e off k a y i z (_, u) = subst (Inv s) (sym u) tt
 

@@ -1,25 +1,24 @@
 -- The engine signs in its own epoch only. Assumes nothing.
-use Rattle.std.proofs.Common.{◌≡◌, ℕ, zero, suc, ◌+◌, ◌-◌, Bool, true, false, cond, not, ◌&&◌, ◌||◌, eqb, ltb, leb, ◌⊎◌, List, [], ◌∷◌, ◌++◌, map, length, Some, None, All, Option, sym, refl, ap, ◌∙◌, subst, inl, inr}
+use Rattle.std.proofs.Common.{◌≡◌, ℕ, zero, suc, ◌+◌, ◌-◌, Bool, true, false, not, ◌&&◌, ◌||◌, eqb, ltb, leb, List, [], ◌∷◌, map, length, Some, None, Option, sym, refl, ap, ◌∙◌, subst, inl, inr}
+use Rattle.std.specs.List.{AllByRecursion}
 use mathlib.Core.Bool.{false≢true}
 use mathlib.Core.List.Memᴰ
 use mathlib.Core.List.{Memᴰ}
-use Rattle.std.proofs.lemmas.Bool.{cond_both}
 use Rattle.std.specs.Str.{bytes_eq}
-use Rattle.forms.specs.Values.{Ack, Cert, Activity, TipAck}
+use Rattle.forms.specs.Values.{Ack, Cert, TipAck}
 use Rattle.forms.specs.Reading as forms
-use Rattle.journal.specs.Log.{Log, Bytes, Placed, reading}
+use Rattle.journal.specs.Log.{Log, Bytes}
 use Rattle.tips.specs.Faults.{quorum}
 use Rattle.provider.specs.Answers.{Answers}
-use Rattle.rules.specs.Lists.{those, opt, front, placed}
-use Rattle.rules.specs.State.{Deadline, Settings, Mem, Desk, next, is_pending, is_certified, pending_at, ack_of, differs, ack_below}
+use Rattle.rules.specs.Lists.{those, placed}
+use Rattle.rules.specs.State.{Settings, Mem, Desk, next, is_pending, is_certified, pending_at, ack_of, differs, ack_below}
 use Rattle.rules.specs.Acts.{Act, append, sync, prune, sync_all, read, tell, send, block, hand_out, take_back, lodge, fetch, drop_below, hear, sign, make, fail, Ended, Space, Did, in_log, at_desk}
-use Rattle.rules.specs.Rules.{keys, attested, Work, idle, then, move, first_free, with_acks, with_cert, announced, go_on, certify, agreeing, assembled, counted, store, own_ack, signing, sending, fill_by, fill, due_at, restore_from, restore, cleared, sign_and_send, digest_for, rebroadcast, with_deadlines}
+use Rattle.rules.specs.Rules.{keys, attested, Work, idle, then, move, first_free, with_acks, with_cert, announced, go_on, certify, agreeing, assembled, counted, store, own_ack, signing, sending, fill_by, due_at, restore_from, restore, cleared, sign_and_send, digest_for, rebroadcast, with_deadlines}
 use Rattle.rules.specs.Plans.{After, stays, runs, closes, Plan, Answer, ok, refused, refuse, carry, or_refuse}
-use Rattle.rules.specs.Message.{counts, safe_tip, seat_told, to_safe_tip, tip_told, checked, blocked, hearing, ack_told, ack_answer, refused_short, too_high, told, plan_told, undecoded, plan_message}
-use Rattle.rules.specs.Calls.{with_wanted, take_first, fetch_first, put_by, refused_late, taken_back, plan_digest, plan_cancel, plan_due, plan_closing}
+use Rattle.rules.specs.Message.{counts, safe_tip, seat_told, to_safe_tip, tip_told, checked, hearing, ack_told, ack_answer, refused_short, too_high, told, plan_told, undecoded, plan_message}
+use Rattle.rules.specs.Calls.{take_first, fetch_first, put_by, refused_late, taken_back, plan_digest, plan_cancel, plan_due, plan_closing}
 use Rattle.rules.proofs.Calm.{by_cond, by_opt, by_front, by_read}
 use Rattle.rules.proofs.Digests.{mine, core_due}
-use Rattle.rules.proofs.Memory.{core}
 use Rattle.rules.proofs.Keeps.{opt_both}
 
 abbrev is_sign : Act → Bool
@@ -43,17 +42,17 @@ is_sign fail = false
 
 -- acts that sign nothing
 abbrev pub Unsigned : List Act → Type 0
-Unsigned l = All (λ a. is_sign a ≡ false) l
+Unsigned l = AllByRecursion (λ a. is_sign a ≡ false) l
 
 pub unsigned : (l : List Act) (a : Ack) → Unsigned l → Memᴰ (sign a) l → ⊥
-unsigned [] a u m = Memᴰ.not_nil m
+unsigned [] a u m = Memᴰ.not-nil m
 unsigned (x ∷ l) a u (Memᴰ.head e) = false≢true (sym u.0 ∙ ap is_sign (sym e))
 unsigned (x ∷ l) a u (Memᴰ.tail m) = unsigned l a u.1 m
 
 -- what was carried out was planned
 pub did_in : (room : Space) (acts : List Act) (v : Log) (k : Desk) (r : Ended) (done : List Act) (w : Log) (j : Desk) (x : Act) → Did room acts v k r done w j → Memᴰ x done → Memᴰ x acts
 did_in room [] v k r done w j x (_, e, _, _) m = subst (Memᴰ x) e m
-did_in room (a ∷ acts) v k r done w j x (inl (_, e, _)) m = absurd (Memᴰ.not_nil (subst (Memᴰ x) e m))
+did_in room (a ∷ acts) v k r done w j x (inl (_, e, _)) m = absurd (Memᴰ.not-nil (subst (Memᴰ x) e m))
 did_in room (a ∷ acts) v k r done w j x (inr (_, (rest, e, d))) m = go (subst (Memᴰ x) e m) (λ n. did_in room acts (in_log a v) (at_desk a k) r rest w j x d n)
   where
     go : Memᴰ x (a ∷ rest) → (Memᴰ x rest → Memᴰ x acts) → Memᴰ x (a ∷ acts)

@@ -1,20 +1,18 @@
 -- In every run, slips handed out are back or out. Assumes nothing.
-use Rattle.std.proofs.Common.{◌≡◌, ℕ, zero, suc, ◌+◌, ◌-◌, ◌<◌, ◌≤◌, Bool, true, false, cond, ◌&&◌, eqb, ◌⊎◌, List, [], ◌∷◌, ◌++◌, length, Some, None, Option, sym, refl, ap, ◌∙◌, subst, inl, inr, arith, eqb-true}
+use Rattle.std.proofs.Common.{◌≡◌, ℕ, ◌+◌, ◌-◌, ◌<◌, Bool, true, false, cond, ◌&&◌, eqb, ◌⊎◌, List, [], ◌∷◌, ◌++◌, length, Some, None, Option, sym, refl, ap, ◌∙◌, subst, inl, inr, arith, eqb-true}
 use mathlib.Core.Bool.{false≢true}
 use mathlib.Core.List.{Memᴰ}
 use Rattle.std.proofs.lemmas.Bool.{cond_both}
-use Rattle.rules.proofs.Flow.{replay, hand, hands-after, Able, Flow, Whole, shorter, balanced, replay_append, after-append, flow_append, did_flow, Plain, Calm, calm_flow, calm_hands, calm_handed, did_calm}
+use Rattle.rules.proofs.Flow.{replay, hand, hands-after, Able, Flow, Whole, shorter, balanced, replay_append, after-append, flow_append, did_flow, Calm, calm_flow, calm_hands, calm_handed, did_calm}
 use Rattle.rules.proofs.Calm.{by_cond, P, calm_opening, calm_epoch, calm_message, calm_due, calm_closing, calm_digest, shuts}
 use Rattle.journal.specs.Log.{Log}
 use Rattle.provider.specs.Answers.{Answers}
-use Rattle.rules.specs.Acts.{Act, hand_out, take_back, lodge, fetch, Ended, whole, full, below-bound, failed, off, Space, Did, at_desk, without}
+use Rattle.rules.specs.Acts.{Act, hand_out, take_back, lodge, fetch, Ended, whole, full, below_bound, failed, off, Space, Did, at_desk, without}
 use Rattle.rules.specs.Calls.{plan, plan_digest, put_by, refused_late, take_first, fetch_first, returned, plan_closing}
 use Rattle.rules.specs.Lists.{opt}
-use Rattle.rules.specs.Opening.{plan_opening}
-use Rattle.rules.specs.Plans.{Event, opening, epoch_change, message, taking, fetching, handing_back, cancelling, lodging, due, closing, Answer, ok, slip, refused, bad_record, bad_message, power_off, After, stays, runs, closes, Plan, refuse, carry}
+use Rattle.rules.specs.Plans.{Event, opening, epoch_change, message, taking, fetching, handing_back, cancelling, lodging, due, closing, Answer, ok, slip, refused, After, stays, runs, closes, Plan, refuse}
 use Rattle.rules.specs.Promises.{is_ok, is_opening, since_opening, handed_out, came_back}
-use Rattle.rules.specs.Rules.{then, digest_for}
-use Rattle.rules.specs.Runs.{Sys, settle, Ends, Call, Deed, called, cut, Run, start, call, power_cut, slip_of, held_after, hands, Held, is_off}
+use Rattle.rules.specs.Runs.{Sys, settle, Ends, Deed, called, Run, start, call, power_cut, held_after, hands, Held, is_off}
 use Rattle.rules.specs.State.{Bytes, Settings, Mem, Desk, Engine, shut, running, halted, no_slips, desk_of, is_pending}
 
 -- what a plan does to the slips, where the caller holds those in hs: what was done flows, and the caller holds as many as it says
@@ -209,14 +207,14 @@ desk-left : (r : Ended) (pl : Plan) (x : Engine) (j : Desk) (a : Answer) (y : En
     (x ≡ shut → j ≡ no_slips) → (shuts pl.after ≡ true → j ≡ no_slips) → desk_of y ≡ j
 desk-left whole pl x j a y (_, e) o h g = ap desk_of e ∙ settled pl.after x j h g
 desk-left full pl x j a y (_, e) o h g = ap desk_of e
-desk-left below-bound pl x j a y (_, e) o h g = ap desk_of e
+desk-left below_bound pl x j a y (_, e) o h g = ap desk_of e
 desk-left failed pl x j a y (_, e) o h g = ap desk_of e
 desk-left off pl x j a y (e, _) o h g = never o refl
 
 not_ok : (r : Ended) (n : ℕ) (x : Engine) (j : Desk) (a : Answer) (y : Engine) → Ends r (refuse n) x j a y → is_ok a ≡ true → {A : Type 0} → A
 not_ok whole n x j a y (e, _) o = never (ap is_ok e) o
 not_ok full n x j a y (e, _) o = never (ap is_ok e) o
-not_ok below-bound n x j a y (e, _) o = never (ap is_ok e) o
+not_ok below_bound n x j a y (e, _) o = never (ap is_ok e) o
 not_ok failed n x j a y (e, _) o = never (ap is_ok e) o
 not_ok off n x j a y (e, _) o = never (ap is_ok e) o
 
@@ -296,7 +294,7 @@ lives : (r : Ended) (p : Answers) (s : Settings) (fits : Space) (x : Engine) (v 
     Inv x past → Held e (hands past) → Did fits (plan p s x v None e).acts v (desk_of x) r done w j → Ends r (plan p s x v None e) x j a y → Inv y (called r e a done ∷ past)
 lives whole p s fits x v e a done y w j past i m d n = live p s fits x v e a done y w whole j past i m d n refl
 lives full p s fits x v e a done y w j past i m d n = live p s fits x v e a done y w full j past i m d n refl
-lives below-bound p s fits x v e a done y w j past i m d n = live p s fits x v e a done y w below-bound j past i m d n refl
+lives below_bound p s fits x v e a done y w j past i m d n = live p s fits x v e a done y w below_bound j past i m d n refl
 lives failed p s fits x v e a done y w j past i m d n = live p s fits x v e a done y w failed j past i m d n refl
 lives off p s fits x v e a done y w j past i m d (_, u) = subst (λ z. Inv z (called off e a done ∷ past)) (sym u) (dead e a done past)
 

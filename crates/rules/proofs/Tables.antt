@@ -1,6 +1,6 @@
 -- Acks in order, and what holds of each of a list. Assumes nothing.
-use Rattle.std.proofs.Common.{◌≡◌, ℕ, zero, suc, ◌+◌, ◌<◌, ◌≤◌, Bool, true, false, cond, eqb, List, [], ◌∷◌, is_some, Some, None, All, Option, refl, ap, subst, ⊎_elim, arith}
-use Rattle.std.proofs.lemmas.List.Elements.{All-weaker}
+use Rattle.std.proofs.Common.{◌≡◌, ℕ, zero, suc, ◌+◌, ◌<◌, ◌≤◌, Bool, true, false, cond, eqb, List, [], ◌∷◌, is_some, Some, None, Option, refl, ap, subst, ⊎_elim, arith, All}
+use Rattle.std.proofs.lemmas.List.Elements.{All-nil, All-cons, All-head, All-tail, All-weaker}
 use Rattle.std.proofs.lemmas.Bool.{cond_both, cases_Bool, eqb-true, or_parts}
 use Rattle.std.proofs.lemmas.Bool.Decides.{nat_tests}
 use Rattle.forms.specs.Values.{Ack}
@@ -18,35 +18,40 @@ opt_both P (Some x) n f p q = q x refl
 
 module _ {X : Type 0} (P : X → Type 0) where
   pub all-those : (p : X → Bool) (xs : List X) → All P xs → All P (those p xs)
-  all-those p [] l = tt
-  all-those p (x ∷ xs) (k, l) = by_cond (All P) (p x) _ _ (k, all-those p xs l) (all-those p xs l)
+  all-those p [] l = l
+  all-those p (x ∷ xs) l =
+      let r = all-those p xs (All-tail P x xs l) in
+      by_cond (All P) (p x) _ _ (All-cons P x (those p xs) (All-head P x xs l) r) r
 
   pub all_sieved : (Q : X → Type 0) (p : X → Bool) → ((x : X) → p x ≡ true → P x → Q x) → (xs : List X) → All P xs → All Q (those p xs)
-  all_sieved Q p h [] l = tt
-  all_sieved Q p h (x ∷ xs) (k, l) = cond_both (p x) (x ∷ those p xs) (those p xs) (All Q) (λ e. (h x e k, all_sieved Q p h xs l)) (λ _. all_sieved Q p h xs l)
+  all_sieved Q p h [] l = All-nil Q
+  all_sieved Q p h (x ∷ xs) l =
+      let r = all_sieved Q p h xs (All-tail P x xs l) in
+      cond_both (p x) (x ∷ those p xs) (those p xs) (All Q) (λ e. All-cons Q x (those p xs) (h x e (All-head P x xs l)) r) (λ _. r)
 
   pub all_placed : (below : X → X → Bool) (x : X) (xs : List X) → P x → All P xs → All P (placed below x xs)
-  all_placed below x [] k l = (k, tt)
-  all_placed below x (y ∷ ys) k (i, l) =
-      by_cond (All P) (below x y) _ _ (k, (i, l)) (by_cond (All P) (below y x) _ _ (i, all_placed below x ys k l) (k, l))
+  all_placed below x [] k l = All-cons P x [] k l
+  all_placed below x (y ∷ ys) k l =
+      let rest = All-tail P y ys l in
+      by_cond (All P) (below x y) _ _ (All-cons P x (y ∷ ys) k l)
+      (by_cond (All P) (below y x) _ _ (All-cons P y (placed below x ys) (All-head P y ys l) (all_placed below x ys k rest)) (All-cons P x ys k rest))
 
   pub all-tabled : (below : X → X → Bool) (table xs : List X) → All P table → All P xs → All P (tabled below table xs)
   all-tabled below table [] t l = t
-  all-tabled below table (x ∷ xs) t (k, l) = all-tabled below (placed below x table) xs (all_placed below x table k t) l
+  all-tabled below table (x ∷ xs) t l = all-tabled below (placed below x table) xs (all_placed below x table (All-head P x xs l) t) (All-tail P x xs l)
 
 pub all_everything : {X : Type 0} (xs : List X) → All (λ _. Unit {0}) xs
-all_everything [] = tt
-all_everything (x ∷ xs) = (tt, all_everything xs)
+all_everything xs k d l = tt
 
 -- where none passes, none does
 pub all_none : {X : Type 0} (p : X → Bool) (xs : List X) → any p xs ≡ false → All (λ x. p x ≡ false) xs
-all_none p [] e = tt
-all_none p (x ∷ xs) e = let o = or_parts (p x) (any p xs) e in (o.0, all_none p xs o.1)
+all_none p [] e = All-nil (λ x. p x ≡ false)
+all_none p (x ∷ xs) e = let o = or_parts (p x) (any p xs) e in All-cons (λ x. p x ≡ false) x xs o.0 (all_none p xs o.1)
 
 -- numbers from a on
 pub all_from : (P : ℕ → Type 0) (a n : ℕ) → ((h : ℕ) → a ≤ h → h < a + n → P h) → All P (from a n)
-all_from P a zero f = tt
-all_from P a (suc n) f = (f a (omega arith) (omega arith), all_from P (a + 1) n (λ h l u. f h (omega arith) (omega arith)))
+all_from P a zero f = All-nil P
+all_from P a (suc n) f = All-cons P a (from (a + 1) n) (f a (omega arith) (omega arith)) (all_from P (a + 1) n (λ h l u. f h (omega arith) (omega arith)))
 
 -- the order of acks
 trans : (a b c : Ack) → ack_below a b ≡ true → ack_below b c ≡ true → ack_below a c ≡ true
@@ -64,10 +69,10 @@ ascends-those p [] l = tt
 ascends-those p (a ∷ xs) (k, l) = by_cond Ascends (p a) _ _ (all-those (λ b. ack_below a b ≡ true) p xs k, ascends-those p xs l) (ascends-those p xs l)
 
 pub ascends-placed : (a : Ack) (xs : List Ack) → Ascends xs → Ascends (placed ack_below a xs)
-ascends-placed a [] l = (tt, tt)
+ascends-placed a [] l = (All-nil (λ b. ack_below a b ≡ true), tt)
 ascends-placed a (b ∷ xs) (k, l) =
     cond_both (ack_below a b) (a ∷ b ∷ xs) _ Ascends
-    (λ e. ((e, All-weaker (λ c. ack_below b c ≡ true) (λ c. ack_below a c ≡ true) (λ c f. trans a b c e f) xs k), (k, l)))
+    (λ e. (All-cons (λ c. ack_below a c ≡ true) b xs e (All-weaker (λ c. ack_below b c ≡ true) (λ c. ack_below a c ≡ true) (λ c f. trans a b c e f) xs k), (k, l)))
     (λ e. cond_both (ack_below b a) (b ∷ placed ack_below a xs) (a ∷ xs) Ascends
     (λ f. (all_placed (λ c. ack_below b c ≡ true) ack_below a xs f k, ascends-placed a xs l))
     (λ f. (All-weaker (λ c. ack_below b c ≡ true) (λ c. ack_below a c ≡ true) (λ c g. alike a b c e f g) xs k, l)))
@@ -89,13 +94,13 @@ once h e i (a ∷ xs) (k, l) =
 -- what holds of all holds of the first that passes, and that passes
 pub first_of : {X : Type 0} (P : X → Type 0) (p : X → Bool) (xs : List X) (x : X) → All P xs → first p xs ≡ Some x → P x × (p x ≡ true)
 first_of P p [] x l e = let z : ◌≡◌ {A = ℕ} 0 1 = cc in absurd (omega arith)
-first_of P p (y ∷ xs) x (k, l) e =
+first_of P p (y ∷ xs) x l e =
     cond_both (p y) (Some y) (first p xs) (λ o. o ≡ Some x → P x × (p x ≡ true))
-    (λ f g. let q : y ≡ x = cc in subst (λ z. P z × (p z ≡ true)) q (k, f)) (λ _ g. first_of P p xs x l g) e
+    (λ f g. let q : y ≡ x = cc in subst (λ z. P z × (p z ≡ true)) q (All-head P y xs l, f)) (λ _ g. first_of P p xs x (All-tail P y xs l) g) e
 
 -- a height that is found is one of them
 pub found-height : (P : ℕ → Type 0) (h : ℕ) (xs : List Pending) → All (λ x. P x.height) xs → is_some (first (λ x. eqb x.height h) xs) ≡ true → P h
 found-height P h [] l e = let z : ◌≡◌ {A = ℕ} 0 1 = cc in absurd (omega arith)
-found-height P h (x ∷ xs) (k, l) e =
+found-height P h (x ∷ xs) l e =
     cond_both (eqb x.height h) (Some x) (first (λ x. eqb x.height h) xs) (λ o. is_some o ≡ true → P h)
-    (λ f _. subst P (eqb-true x.height h f) k) (λ _ g. found-height P h xs l g) e
+    (λ f _. subst P (eqb-true x.height h f) (All-head (λ x. P x.height) x xs l)) (λ _ g. found-height P h xs (All-tail (λ x. P x.height) x xs l) g) e

@@ -1,7 +1,7 @@
 -- The rules keep an engine's tables tidy. Assumes nothing.
-use Rattle.std.proofs.Common.{◌≡◌, ℕ, zero, suc, ◌+◌, ◌-◌, ◌^◌, ◌<◌, ◌≤◌, min, Bool, true, false, cond, not, ◌&&◌, ◌||◌, eqb, ltb, leb, List, [], ◌∷◌, map, length, Some, None, All, Option, sym, refl, ap, ◌∙◌, subst, arith}
+use Rattle.std.proofs.Common.{◌≡◌, ℕ, zero, suc, ◌+◌, ◌-◌, ◌^◌, ◌<◌, ◌≤◌, min, Bool, true, false, cond, not, ◌&&◌, ◌||◌, eqb, ltb, leb, List, [], ◌∷◌, map, length, Some, None, Option, sym, refl, ap, ◌∙◌, subst, arith, All}
+use Rattle.std.proofs.lemmas.List.Elements.{All-head, All-tail, All-weaker, All-map, All-push}
 use Rattle.std.specs.Str.{bytes_eq}
-use Rattle.std.proofs.lemmas.List.Elements.{All-weaker, All-map, All-push}
 use Rattle.std.proofs.lemmas.Bool.{cond_both, eqb-true, ltb-true, leb-true, le-ltb, or_parts, or_from, not-false}
 use Rattle.forms.specs.Values.{Ack, Cert}
 use Rattle.tips.specs.Faults.{quorum}
@@ -9,7 +9,7 @@ use Rattle.provider.specs.Answers.{Answers}
 use Rattle.provider.specs.Laws.{Lawful}
 use Rattle.rules.specs.Lists.{those, highest, placed}
 use Rattle.rules.specs.State.{Bytes, Pending, Deadline, Settings, Mem, low, pending_at, is_pending, is_certified, ack_of, differs, next, ack_below}
-use Rattle.rules.specs.Rules.{Work, idle, then, keys, own, attested, dropped, with_acks, with_deadlines, move, first_free, with_cert, announced, certify, agreeing, assembled, counted, store, own_ack, signing, sending, fill_by, fill, due_at, restore_from, restore, verified, sign_and_send, cleared, digest_for, rebroadcast}
+use Rattle.rules.specs.Rules.{Work, idle, then, keys, own, attested, dropped, with_acks, with_deadlines, move, first_free, with_cert, announced, certify, agreeing, assembled, counted, store, own_ack, signing, sending, fill_by, fill, due_at, restore_from, restore, sign_and_send, cleared, digest_for, rebroadcast}
 use Rattle.rules.specs.Opening.{outside}
 use Rattle.rules.specs.Room.{count, InWindow, Formed, DigestSized, Tidy}
 use Rattle.rules.proofs.Calm.{by_cond, by_opt}
@@ -141,8 +141,10 @@ module _ (s : Settings) (e : ℕ) where
 
   k_restore-from : (p : Answers) (d : Bytes) (c : ℕ) (l : List Ack) (n : ℕ) (m : Mem) → All Formed l → N s e n m → K s e (n + count (out s e) l) (restore_from p s d c l m)
   k_restore-from p d c [] n m g x = record { kept = more s e n _ m (omega arith) x }
-  k_restore-from p d c (a ∷ rest) n m (g, gs) x =
+  k_restore-from p d c (a ∷ rest) n m all x =
       let o = one (out s e) a rest in
+      let g = All-head Formed a rest all in
+      let gs = All-tail Formed a rest all in
       by_cond (K s e (n + count (out s e) (a ∷ rest))) (not (eqb a.epoch c) && is_certified m a.height) _ _ (still s e _ m (more s e n _ m (omega arith) x))
       (by_cond (K s e (n + count (out s e) (a ∷ rest))) (bytes_eq a.digest d) _ _
       (k_then s e (n + weight a) _ (store p s a m) (restore_from p s d a.epoch rest) (k_store p n a m g x)
@@ -194,10 +196,10 @@ module _ (p : Answers) (lawful : Lawful p) (s : Settings) (e : ℕ) where
         tidy = record {
           small = y.small;
           ordered = ascends-those (λ a. not (eqb a.height h)) m.acks y.ordered;
-          near = all-those _ (λ a. not (eqb a.height h)) m.acks y.near;
+          near = all-those (λ a. InWindow s m.tip a.height × Formed a) (λ a. not (eqb a.height h)) m.acks y.near;
           few = omega arith;
           window = All-map (λ x. InWindow s m.tip x.height × DigestSized x.verified) (λ x. cond (eqb x.height h) (record { height = h; verified = Some d }) x) m.pending
-              (All-weaker (λ x. InWindow s m.tip x.height × DigestSized x.verified) _ (λ x k. cond_both (eqb x.height h) (record { height = h; verified = Some d }) x (λ z. InWindow s m.tip z.height × DigestSized z.verified) (λ q. (subst (InWindow s m.tip) (eqb-true x.height h q) k.0, size)) (λ _. k)) m.pending y.window);
+              (All-weaker (λ x. InWindow s m.tip x.height × DigestSized x.verified) (λ x. InWindow s m.tip (cond (eqb x.height h) (record { height = h; verified = Some d }) x).height × DigestSized (cond (eqb x.height h) (record { height = h; verified = Some d }) x).verified) (λ x k. cond_both (eqb x.height h) (record { height = h; verified = Some d }) x (λ z. InWindow s m.tip z.height × DigestSized z.verified) (λ q. (subst (InWindow s m.tip) (eqb-true x.height h q) k.0, size)) (λ _. k)) m.pending y.window);
           certified = y.certified;
           told = y.told;
         };

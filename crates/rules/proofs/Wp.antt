@@ -1,8 +1,8 @@
 -- Acts one after the other: what has to hold wherever they stop, and what holds once all are carried out. Assumes nothing.
-use Rattle.std.proofs.Common.{◌≡◌, ℕ, ◌⊎◌, List, [], ◌∷◌, ◌++◌, sym, refl, ap, ◌∙◌, subst, inl, inr, append_assoc, append-nil, arith}
+use Rattle.std.proofs.Common.{◌≡◌, ℕ, List, [], ◌∷◌, ◌++◌, sym, ap, ◌∙◌, subst, inl, inr, append_assoc, append-nil, arith}
 use Rattle.journal.specs.Log.{Log, Firmer}
 use Rattle.rules.specs.State.{Desk}
-use Rattle.rules.specs.Acts.{Act, append, sync, prune, sync_all, read, tell, send, block, hand_out, take_back, lodge, fetch, drop_below, hear, sign, make, fail, Ended, whole, full, below-bound, failed, off, Space, Stops, Goes, Did, in_log, at_desk}
+use Rattle.rules.specs.Acts.{Act, append, sync, prune, sync_all, read, tell, send, block, hand_out, take_back, lodge, fetch, drop_below, hear, sign, make, fail, Ended, whole, Space, Stops, Goes, Did, in_log, at_desk}
 
 -- no act stops as whole
 pub stops-short : (room : Space) (a : Act) (v w : Log) → Stops room a v whole w → ⊥

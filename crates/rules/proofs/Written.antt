@@ -1,7 +1,7 @@
 -- What each call writes fits into 2,048 bytes. Assumes nothing.
-use Rattle.std.proofs.Common.{◌≡◌, ℕ, zero, suc, ◌+◌, ◌^◌, ◌<◌, ◌≤◌, Bool, true, false, cond, not, ◌&&◌, ◌||◌, eqb, ltb, leb, List, [], ◌∷◌, ◌++◌, length, Some, None, All, refl, ap, subst, inl, inr, ⊎_elim, arith, length-append}
+use Rattle.std.proofs.Common.{◌≡◌, ℕ, zero, suc, ◌+◌, ◌^◌, ◌<◌, ◌≤◌, Bool, true, false, cond, not, ◌&&◌, ◌||◌, eqb, ltb, leb, List, [], ◌∷◌, ◌++◌, length, Some, None, refl, ap, subst, inl, inr, ⊎_elim, arith, length-append, All}
+use Rattle.std.proofs.lemmas.List.Elements.{All-head, All-tail, All-weaker}
 use Rattle.std.specs.Str.{bytes_eq}
-use Rattle.std.proofs.lemmas.List.Elements.{All-weaker}
 use Rattle.std.proofs.lemmas.Bool.{cond_both, eqb-true, leb-false, or_parts, and_parts}
 use Rattle.forms.specs.Values.{Ack, TipAck}
 use Rattle.forms.specs.Reading as forms
@@ -14,7 +14,7 @@ use Rattle.rules.specs.State.{Bytes, Seat, Settings, allowed, Mem, Desk, Engine,
 use Rattle.rules.specs.Acts.{Act, send, block, Ended, Space, Did, in_log, at_desk}
 use Rattle.rules.specs.Rules.{Work, idle, then, own_ack, signing, store, due_at, with_deadlines, restore_from, restore, sign_and_send, cleared, digest_for, rebroadcast}
 use Rattle.rules.specs.Plans.{Event, opening, epoch_change, message, taking, fetching, handing_back, cancelling, lodging, due, closing, Plan, refuse, or_refuse}
-use Rattle.rules.specs.Message.{epoch_refusal, counts, safe_tip, seat_told, tip_told, checked, blocked, hearing, ack_told, refused_short, too_high, told, plan_told, plan_message}
+use Rattle.rules.specs.Message.{epoch_refusal, counts, safe_tip, seat_told, tip_told, checked, blocked, hearing, ack_told, refused_short, too_high, plan_told, plan_message}
 use Rattle.rules.specs.Calls.{take_first, fetch_first, refused_late, plan_digest, plan_due, plan}
 use Rattle.rules.specs.Runs.{Run, Deed, Sized}
 use Rattle.rules.specs.Promises.{is_opening}
@@ -22,7 +22,7 @@ use Rattle.rules.specs.Output.{written, output, OutputFits}
 use Rattle.rules.specs.Room.{InWindow, Formed, Neat}
 use Rattle.rules.proofs.Calm.{by_cond, by_opt, by_front}
 use Rattle.rules.proofs.Tables.{opt_both, all-those, all_sieved, first_of}
-use Rattle.rules.proofs.Tidy.{N, out, own_fact, verified-size, in_window, k_restore, n_cleared}
+use Rattle.rules.proofs.Tidy.{N, own_fact, verified-size, in_window, k_restore, n_cleared}
 use Rattle.rules.proofs.Decoded.{message-sized}
 use Rattle.rules.proofs.Neat.{neat, if_read, formed, seats-told}
 use Rattle.rules.proofs.Room.{bounds, acks_fit}
@@ -59,7 +59,10 @@ module _ (p : Answers) (lawful : Lawful p) (s : Settings) where
 
   q_restore-from : (h : ℕ) (d : Bytes) (c : ℕ) (l : List Ack) (m : Mem) → h < top → All (λ a. (a.height ≡ h) × Formed a) l → U m.tip m.certs → Q h m (restore_from p s d c l m)
   q_restore-from h d c [] m b g u = q_idle h m u
-  q_restore-from h d c (a ∷ rest) m b (g, gs) u =
+  q_restore-from h d c (a ∷ rest) m b all u =
+      let P : Ack → Type 0 = λ a. (a.height ≡ h) × Formed a in
+      let g = All-head P a rest all in
+      let gs = All-tail P a rest all in
       by_cond (Q h m) (not (eqb a.epoch c) && is_certified m a.height) _ _ (q_idle h m u)
       (by_cond (Q h m) (bytes_eq a.digest d) _ _
       (q_then h m (store p s a m) (restore_from p s d a.epoch rest) (q_store-at h a m g.0 b g.1.digest u) (q_restore-from h d a.epoch rest _ b gs))
@@ -80,12 +83,12 @@ module _ (p : Answers) (lawful : Lawful p) (s : Settings) where
   size-digest e now h d m len x b u =
       let l = those (λ a. eqb a.height h) m.acks in
       let formed-l : All (λ a. (a.height ≡ h) × Formed a) l =
-      all_sieved (λ a. InWindow s m.tip a.height × Formed a) _ (λ a. eqb a.height h) (λ a q k. (eqb-true a.height h q, k.1)) m.acks x.tidy.near in
+      all_sieved (λ a. InWindow s m.tip a.height × Formed a) (λ a. (a.height ≡ h) × Formed a) (λ a. eqb a.height h) (λ a q k. (eqb-true a.height h q, k.1)) m.acks x.tidy.near in
       opt_both (λ w. size w.acts ≤ 1225) (pending_at m h) (idle m) _ (λ _. omega arith) (λ z r.
       by_opt (λ w. size w.acts ≤ 1225) z.verified _ (λ _. idle m)
       (let hb = b (ap (λ o. elim o [ None ↦ false | Some _ ↦ true ]) r) in
       let q = q_restore h d l (cleared h d m) hb formed-l u in
-      let k = k_restore s e p d l _ (cleared h d m) (All-weaker _ Formed (λ a y. y.1) l formed-l) (n_cleared p lawful s e 128 h d m len x) in
+      let k = k_restore s e p d l _ (cleared h d m) (All-weaker (λ a. (a.height ≡ h) × Formed a) Formed (λ a y. y.1) l formed-l) (n_cleared p lawful s e 128 h d m len x) in
       let t = t_send e _ now h d (restore p s d l (cleared h d m)).mem hb len k.kept q.small in
       let za = size-append (restore p s d l (cleared h d m)).acts (sign_and_send p s now h d (restore p s d l (cleared h d m)).mem).acts in
       ⊎_elim (λ o. omega (arith, o, t.most, za)) (λ o. omega (arith, q.most, t.spent o, za)) q.used)
@@ -109,8 +112,12 @@ module _ (p : Answers) (lawful : Lawful p) (s : Settings) where
 
 -- the tip of a message
 high_below : {A : Type 0} (f : A → ℕ) (b n : ℕ) (xs : List A) → n < b → All (λ x. f x < b) xs → highest f n xs < b
-high_below f b n [] l a = l
-high_below f b n (x ∷ xs) l (k, a) = let i = high_below f b n xs l a in omega arith
+high_below {A = A} f b n [] l a = l
+high_below {A = A} f b n (x ∷ xs) l a =
+    let P = λ (x : A). f x < b in
+    let k = All-head P x xs a in
+    let i = high_below f b n xs l (All-tail P x xs a) in
+    omega arith
 
 safe_below : (xs : List Seat) (p : Seat → Bool) → All (λ x. x.tip < 2 ^ 62) xs → highest (λ x. x.tip) 0 (those p xs) < 2 ^ 62
 safe_below xs p a = high_below (λ x. x.tip) (2 ^ 62) 0 (those p xs) (omega arith) (all-those (λ x. x.tip < 2 ^ 62) p xs a)

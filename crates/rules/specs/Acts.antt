@@ -1,5 +1,5 @@
 -- A call as a list of acts, carried out in order, to the end or to the first that stops. Assumes nothing.
-use Rattle.std.specs.Prelude.{◌≡◌, ℕ, ◌+◌, ◌-◌, ◌<◌, ◌≤◌, Bool, true, false, cond, not, ltb, ◌⊎◌, List, [], ◌∷◌, length, Some, None, Option, ◌==◌, nat_lt}
+use Rattle.std.specs.Prelude.{◌≡◌, ℕ, ◌+◌, ◌-◌, ◌<◌, ◌≤◌, Bool, false, cond, not, ◌⊎◌, List, [], ◌∷◌, length, Some, None, Option, ◌==◌, nat_lt}
 use Rattle.forms.specs.Values.{Ack, Cert, Activity}
 use Rattle.forms.specs.Writing.{write}
 use Rattle.journal.specs.declared.places.Overrun.{Overrun}
@@ -35,7 +35,7 @@ pub data Act : Type 0 where
 
 -- how acts ended: all were carried out, or one stopped: no room, a section below the bound, assembling failed, or the power went
 pub data Ended : Type 0 where
-  whole full below-bound failed off : Ended
+  whole full below_bound failed off : Ended
 
 -- one of a number is gone
 abbrev pub without : ℕ → List ℕ → List ℕ
@@ -49,7 +49,7 @@ inserted h (x ∷ xs) = cond (nat_lt h x) (h ∷ x ∷ xs) (x ∷ inserted h xs)
 
 -- lodged slips below a height are back
 abbrev pub slips_dropped : ℕ → Desk → Desk
-slips_dropped h k = record { out = k.out - length (those (λ x. ltb x h) k.lodged); lodged = those (λ x. not (nat_lt x h)) k.lodged }
+slips_dropped h k = record { out = k.out - length (those (λ x. nat_lt x h) k.lodged); lodged = those (λ x. not (nat_lt x h)) k.lodged }
 
 -- what an act does to the slips
 abbrev pub at_desk : Act → Desk → Desk
@@ -127,7 +127,7 @@ Space = ℕ → ℕ → Bool
 -- how an append may stop, and what it leaves of the journal
 abbrev pub StopsAppend : Space → ℕ → Activity → Log → Ended → Log → Type 0
 StopsAppend room s x v whole w = ⊥
-StopsAppend room s x v below-bound w = (s < v.bound) × Firmer v w
+StopsAppend room s x v below_bound w = (s < v.bound) × Firmer v w
 StopsAppend room s x v full w = (v.bound ≤ s) × ((1068 < length (write x)) ⊎ (room s (length (write x)) ≡ false)) × Firmer v w
 StopsAppend room s x v failed w = ⊥
 StopsAppend room s x v off w = MayAppend s x v × Cut 0 (appended s (write x) v) w
@@ -135,7 +135,7 @@ StopsAppend room s x v off w = MayAppend s x v × Cut 0 (appended s (write x) v)
 -- how an act that passes on what a journal holds back may stop
 abbrev pub StopsSync : Log → Ended → Log → Type 0
 StopsSync v whole w = ⊥
-StopsSync v below-bound w = ⊥
+StopsSync v below_bound w = ⊥
 StopsSync v full w = Firmer v w
 StopsSync v failed w = ⊥
 StopsSync v off w = Cut 0 v w

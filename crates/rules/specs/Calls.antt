@@ -1,5 +1,5 @@
 -- Slips, due and closing, and what each call plans. Assumes nothing.
-use Rattle.std.specs.Prelude.{ℕ, Bool, cond, List, [], ◌∷◌, Some, None, Option, ◌==◌, nat_lt}
+use Rattle.std.specs.Prelude.{ℕ, cond, List, [], ◌∷◌, Option, ◌==◌, nat_lt}
 use Rattle.journal.specs.declared.places.Overrun.{Overrun}
 use Rattle.journal.specs.Log.{Log}
 use Rattle.provider.specs.Answers.{Answers}

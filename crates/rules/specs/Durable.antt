@@ -1,14 +1,13 @@
 -- Whatever is told is durable when it is told. Assumes nothing.
 use Rattle.std.specs.Prelude.{◌≡◌, ℕ, List, [], ◌∷◌, None}
 use mathlib.Core.List.{Memᴰ}
-use Rattle.forms.specs.Values.{Activity}
 use Rattle.forms.specs.Writing.{write}
 use Rattle.journal.specs.Log.{Log, Section}
 use Rattle.provider.specs.Answers.{Answers}
 use Rattle.provider.specs.Laws.{Lawful}
 use Rattle.rules.specs.State.{Bytes, Settings, section}
 use Rattle.rules.specs.Acts.{Act, append, sync, prune, sync_all, read, tell, send, block, hand_out, take_back, lodge, fetch, drop_below, hear, sign, make, fail, in_log}
-use Rattle.rules.specs.Plans.{Event, Plan}
+use Rattle.rules.specs.Plans.{Event}
 use Rattle.rules.specs.Calls.{plan}
 use Rattle.rules.specs.Runs.{Sys, Run, Deed}
 use Rattle.rules.specs.Limits.{height_in}

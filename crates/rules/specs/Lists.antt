@@ -1,5 +1,5 @@
 -- Small words on lists. Assumes nothing.
-use Rattle.std.specs.Prelude.{ℕ, zero, suc, ◌+◌, max, Bool, true, false, cond, ◌||◌, List, [], ◌∷◌, Some, None, Option, nat_eq}
+use Rattle.std.specs.Prelude.{ℕ, zero, suc, ◌+◌, max, Bool, false, cond, ◌||◌, List, [], ◌∷◌, Some, None, Option, nat_eq}
 
 -- the elements that pass, the first of them, and whether there is one
 abbrev pub those : {A : Type 0} → (A → Bool) → List A → List A

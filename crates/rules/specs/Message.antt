@@ -1,5 +1,5 @@
 -- Epoch change and message: what they do. Assumes nothing.
-use Rattle.std.specs.Prelude.{ℕ, ◌+◌, ◌-◌, ◌^◌, Bool, true, false, cond, not, ◌&&◌, ◌||◌, leb, List, [], ◌∷◌, map, length, is_some, Some, None, Option, ◌==◌, nat_eq, nat_le, nat_lt}
+use Rattle.std.specs.Prelude.{ℕ, ◌+◌, ◌-◌, ◌^◌, Bool, false, cond, not, ◌&&◌, ◌||◌, List, [], ◌∷◌, map, length, is_some, Some, None, Option, ◌==◌, nat_eq, nat_le, nat_lt}
 use Rattle.std.specs.Str.{bytes_eq}
 use Rattle.forms.specs.declared.faults.Fault.{Fault}
 use Rattle.forms.specs.Values.{Ack, TipAck}
@@ -10,7 +10,7 @@ use Rattle.provider.specs.Laws.{position}
 use Rattle.rules.specs.Lists.{those, first, any, opt, highest, placed}
 use Rattle.rules.specs.State.{Bytes, Seat, Pending, Deadline, Settings, Mem, low, pending_at, is_pending, is_certified, ack_of, differs, sooner}
 use Rattle.rules.specs.Acts.{Act, block, hear}
-use Rattle.rules.specs.Rules.{Work, idle, then, keys, own, move, store}
+use Rattle.rules.specs.Rules.{Work, idle, then, own, move, store}
 use Rattle.rules.specs.Plans.{Answer, ok, refused, bad_message, stays, Plan, refuse, carry, refusal, or_refuse}
 use Rattle.rules.specs.Opening.{late, known, keys_of, outside, by_reading}
 
@@ -41,7 +41,7 @@ in_epoch p s m e now = record {
   tip = m.tip;
   seats = map (λ k. record { key = k; tip = seat_tip m.seats k }) (keys_of p e);
   pending = m.pending;
-  acks = those (λ a. leb (e - s.older) a.epoch) m.acks;
+  acks = those (λ a. nat_le (e - s.older) a.epoch) m.acks;
   certs = m.certs;
   deadlines = cond (is_some (own p e)) (newly_due m now m.pending m.deadlines) m.deadlines;
   wanted = m.wanted;
@@ -56,7 +56,7 @@ counts m k t = any (λ x. bytes_eq k x.key && nat_lt x.tip t) m.seats
 
 -- the (f + 1)-th largest: the largest that f + 1 reach
 abbrev pub safe_tip : List Seat → ℕ
-safe_tip xs = highest (λ x. x.tip) 0 (those (λ x. leb (faults (length xs) + 1) (length (those (λ y. leb x.tip y.tip) xs))) xs)
+safe_tip xs = highest (λ x. x.tip) 0 (those (λ x. nat_le (faults (length xs) + 1) (length (those (λ y. nat_le x.tip y.tip) xs))) xs)
 
 abbrev pub with_seats : List Seat → Mem → Mem
 with_seats xs m = record { epoch = m.epoch; tip = m.tip; seats = xs; pending = m.pending; acks = m.acks; certs = m.certs; deadlines = m.deadlines; wanted = m.wanted }

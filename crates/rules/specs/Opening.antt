@@ -1,5 +1,5 @@
 -- Opening: what the journal's records leave, and what an opening does. Assumes nothing.
-use Rattle.std.specs.Prelude.{ℕ, ◌+◌, ◌-◌, ◌^◌, min, Bool, true, false, cond, not, ◌&&◌, ◌||◌, leb, List, [], ◌∷◌, ◌++◌, map, length, is_some, Some, None, Ok, Err, Option, Result, ◌==◌, nat_eq, nat_le, nat_lt}
+use Rattle.std.specs.Prelude.{ℕ, ◌+◌, ◌-◌, ◌^◌, min, Bool, true, false, cond, not, ◌&&◌, ◌||◌, List, [], ◌∷◌, ◌++◌, map, length, is_some, Some, None, Ok, Err, Option, Result, ◌==◌, nat_eq, nat_le, nat_lt}
 use Rattle.std.specs.Str.{bytes_eq}
 use Rattle.forms.specs.declared.faults.Fault.{Fault}
 use Rattle.forms.specs.Values.{Ack, Cert, Activity, ack, certified, tip}
@@ -9,8 +9,8 @@ use Rattle.journal.specs.declared.places.Overrun.{Overrun}
 use Rattle.journal.specs.Log.{Log, Placed, reading}
 use Rattle.provider.specs.Answers.{Answers}
 use Rattle.rules.specs.Lists.{those, first, any, opt, highest, from, placed}
-use Rattle.rules.specs.State.{Bytes, Seat, Pending, Deadline, Settings, allowed, Mem, Engine, shut, running, halted, low, ack_below}
-use Rattle.rules.specs.Acts.{Act, read, tell}
+use Rattle.rules.specs.State.{Bytes, Settings, allowed, Mem, Engine, shut, running, halted, low, ack_below}
+use Rattle.rules.specs.Acts.{read, tell}
 use Rattle.rules.specs.Rules.{keys, own, fill}
 use Rattle.rules.specs.Plans.{Answer, ok, refused, bad_record, overran, stays, runs, Plan, refusal, or_refuse}
 
@@ -62,7 +62,7 @@ cert_below c d = nat_lt c.height d.height
 
 -- the certificates from tip − A up
 abbrev pub certs_left : Settings → List Activity → List Cert
-certs_left s xs = tabled cert_below [] (those (λ c. leb (low s (top_of xs)) c.height) (certs_in xs))
+certs_left s xs = tabled cert_below [] (those (λ c. nat_le (low s (top_of xs)) c.height) (certs_in xs))
 
 -- the acks from tip − A up, of heights without a certificate, in reading order
 abbrev pub acks_left : Settings → List Activity → List Ack
@@ -126,7 +126,7 @@ told_length (x ∷ xs) = 3 + length (write x) + told_length xs
 
 -- a height that is kept lies at tip + W or above
 abbrev pub too_far : Settings → Found → Bool
-too_far s f = any (λ c. leb (f.top + s.window) c.height) f.certs || any (λ a. leb (f.top + s.window) a.height) f.acks
+too_far s f = any (λ c. nat_le (f.top + s.window) c.height) f.certs || any (λ a. nat_le (f.top + s.window) a.height) f.acks
 
 -- how many stored acks lie outside the epoch bounds
 abbrev pub strays : Answers → Settings → ℕ → Found → ℕ

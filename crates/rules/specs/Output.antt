@@ -1,9 +1,9 @@
 -- What a call writes into its output buffer, and that 2,048 bytes are enough. Assumes nothing.
-use Rattle.std.specs.Prelude.{◌≡◌, ℕ, ◌/◌, ◌%◌, ◌^◌, ◌<◌, ◌≤◌, false, List, [], ◌∷◌, ◌++◌, length}
+use Rattle.std.specs.Prelude.{◌≡◌, ℕ, ◌/◌, ◌%◌, ◌≤◌, false, List, [], ◌∷◌, ◌++◌, length}
 use Rattle.forms.specs.Writing.{write, write_message}
 use Rattle.provider.specs.Answers.{Answers}
 use Rattle.provider.specs.Laws.{Lawful}
-use Rattle.rules.specs.State.{Bytes, Settings, Engine, shut, running, halted}
+use Rattle.rules.specs.State.{Bytes, Settings}
 use Rattle.rules.specs.Acts.{Act, append, sync, prune, sync_all, read, tell, send, block, hand_out, take_back, lodge, fetch, drop_below, hear, sign, make, fail, Space}
 use Rattle.rules.specs.Plans.{Event, Answer}
 use Rattle.rules.specs.Runs.{Sys, Run, Deed, Call, Sized}

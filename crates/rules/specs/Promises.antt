@@ -1,5 +1,5 @@
 -- What every run keeps: certificates agree and are backed, own acks agree, slips balance. Assumes nothing.
-use Rattle.std.specs.Prelude.{◌≡◌, ℕ, ◌+◌, ◌<◌, ◌≤◌, Bool, true, false, cond, ◌&&◌, ◌⊎◌, List, [], ◌∷◌, ◌++◌, length, Some, None, All, Option, nat_lt, slice_index_or}
+use Rattle.std.specs.Prelude.{◌≡◌, ℕ, ◌+◌, ◌<◌, ◌≤◌, Bool, true, false, cond, ◌&&◌, ◌⊎◌, List, [], ◌∷◌, ◌++◌, length, Some, None, Option, nat_lt, slice_index_or, All}
 use mathlib.Core.List.{Memᴰ}
 use Rattle.forms.specs.Values.{Ack, Cert, ack, certified}
 use Rattle.tips.specs.Faults.{quorum}

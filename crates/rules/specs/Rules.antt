@@ -1,12 +1,12 @@
 -- The engine's rules: the acts of each, and what the engine knows after them. Assumes nothing.
-use Rattle.std.specs.Prelude.{ℕ, zero, suc, ◌+◌, ◌-◌, Bool, true, false, cond, not, ◌&&◌, ◌||◌, ltb, leb, List, [], ◌∷◌, ◌++◌, map, length, Some, None, Option, ◌==◌, nat_eq, nat_le, nat_lt}
+use Rattle.std.specs.Prelude.{ℕ, zero, suc, ◌+◌, ◌-◌, cond, not, ◌&&◌, ◌||◌, List, [], ◌∷◌, ◌++◌, map, length, Some, None, Option, ◌==◌, nat_eq, nat_le, nat_lt}
 use Rattle.std.specs.Str.{bytes_eq}
 use Rattle.forms.specs.Values.{Ack, Cert, Activity, ack, certified, tip}
 use Rattle.tips.specs.Faults.{quorum}
 use Rattle.provider.specs.Answers.{Answers, Attested}
 use Rattle.rules.specs.Lists.{those, opt, placed}
 use Rattle.rules.specs.State.{Bytes, Pending, Deadline, Settings, Mem, low, section, pending_at, is_pending, is_certified, ack_of, differs, next, ack_below, sooner}
-use Rattle.rules.specs.Acts.{Act, append, sync, prune, tell, send, drop_below, hear, sign, make, fail}
+use Rattle.rules.specs.Acts.{Act, append, sync, prune, tell, send, drop_below, sign, make, fail}
 
 -- the keys of an epoch, if it is known, and its own signer, if there is one
 abbrev pub keys : Answers → ℕ → Option (List Bytes)
@@ -41,11 +41,11 @@ dropped b t m = record {
   epoch = m.epoch;
   tip = t;
   seats = m.seats;
-  pending = those (λ p. leb b p.height) m.pending;
-  acks = those (λ a. leb b a.height) m.acks;
-  certs = those (λ c. leb b c.height) m.certs;
-  deadlines = those (λ d. leb b d.height) m.deadlines;
-  wanted = those (leb b) m.wanted;
+  pending = those (λ p. nat_le b p.height) m.pending;
+  acks = those (λ a. nat_le b a.height) m.acks;
+  certs = those (λ c. nat_le b c.height) m.certs;
+  deadlines = those (λ d. nat_le b d.height) m.deadlines;
+  wanted = those (nat_le b) m.wanted;
 }
 
 abbrev pub with_acks : List Ack → Mem → Mem
@@ -73,7 +73,7 @@ first_free zero t m = t
 first_free (suc n) t m = cond (is_certified m t) (first_free n (t + 1) m) t
 
 abbrev pub with_cert : Cert → Mem → Mem
-with_cert c m = with_certs (placed (λ a b. ltb a.height b.height) c m.certs) m
+with_cert c m = with_certs (placed (λ a b. nat_lt a.height b.height) c m.certs) m
 
 -- a certificate that was made is recorded, made durable, and told
 abbrev pub announced : Settings → Cert → Mem → Work

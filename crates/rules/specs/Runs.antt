@@ -5,7 +5,7 @@ use Rattle.journal.specs.Log.{Log, empty}
 use Rattle.journal.specs.Cuts.{Cut}
 use Rattle.provider.specs.Answers.{Answers}
 use Rattle.rules.specs.State.{Settings, Desk, Engine, shut, running, halted, desk_of}
-use Rattle.rules.specs.Acts.{Act, Ended, whole, full, below-bound, failed, off, Space, Did, without}
+use Rattle.rules.specs.Acts.{Act, Ended, whole, full, below_bound, failed, off, Space, Did, without}
 use Rattle.rules.specs.Plans.{Event, opening, epoch_change, message, taking, fetching, handing_back, cancelling, lodging, due, closing, Answer, ok, slip, refused, bad_record, overran, bad_message, power_off, After, stays, runs, closes, Plan}
 use Rattle.rules.specs.Calls.{plan}
 
@@ -26,7 +26,7 @@ settle closes x k = shut
 abbrev pub Ends : Ended → Plan → Engine → Desk → Answer → Engine → Type 0
 Ends whole pl x k a y = (a ≡ pl.answer) × (y ≡ settle pl.after x k)
 Ends full pl x k a y = (a ≡ refused 27) × (y ≡ halted k)
-Ends below-bound pl x k a y = (a ≡ refused 28) × (y ≡ halted k)
+Ends below_bound pl x k a y = (a ≡ refused 28) × (y ≡ halted k)
 Ends failed pl x k a y = (a ≡ refused 29) × (y ≡ halted k)
 Ends off pl x k a y = (a ≡ power_off) × (y ≡ shut)
 
@@ -45,7 +45,7 @@ pub data Deed : Type 0 where
 abbrev pub is_off : Ended → Bool
 is_off whole = false
 is_off full = false
-is_off below-bound = false
+is_off below_bound = false
 is_off failed = false
 is_off off = true
 

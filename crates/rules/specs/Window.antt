@@ -33,8 +33,8 @@ abbrev pub Gets : ℕ → Answers → Settings → Bytes → Ack → Mem → Typ
 Gets n p s k a m = (checked p s k a m ≡ n) × (ack_answer p s k a m ≡ refused n)
 
 -- the window lets an ack through: what it gets is what the later checks say
-abbrev pub Goes_on : Answers → Settings → Bytes → Ack → Mem → Type 0
-Goes_on p s k a m = checked p s k a m ≡ after_window p a m
+abbrev pub GoesOn : Answers → Settings → Bytes → Ack → Mem → Type 0
+GoesOn p s k a m = checked p s k a m ≡ after_window p a m
 
 -- tip 10, W 4, A 2, whatever the provider, the sender, the ack and the rest of what the engine knows, if the earlier checks pass:
 -- height 7 gets 17, height 14 gets 18, heights 8 and 13 go on
@@ -44,5 +44,5 @@ WindowCases =
     m.tip ≡ 10 → s.window ≡ 4 → s.activity ≡ 2 → before_height p s k a m ≡ 0 →
     (a.height ≡ 7 → Gets 17 p s k a m)
     × (a.height ≡ 14 → Gets 18 p s k a m)
-    × (a.height ≡ 8 → Goes_on p s k a m)
-    × (a.height ≡ 13 → Goes_on p s k a m)
+    × (a.height ≡ 8 → GoesOn p s k a m)
+    × (a.height ≡ 13 → GoesOn p s k a m)
