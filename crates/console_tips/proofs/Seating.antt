@@ -1,8 +1,7 @@
 -- Seats that are written to the front of a board, and the keys of a set.
-use Rattle.std.proofs.Common.{◌≡◌, ℕ, ◌+◌, ◌-◌, ◌<◌, ◌≤◌, min, Bool, true, false, ◌&&◌, eqb, leb, List, [], ◌∷◌, ◌++◌, map, length, take, drop, count_by, Result, sym, refl, ap, ◌∙◌, subst, arith, length-append, length-drop}
+use Rattle.std.proofs.Common.{◌≡◌, ℕ, ◌-◌, ◌≤◌, min, Bool, true, leb, List, [], ◌∷◌, ◌++◌, length, take, count_by, sym, ap, ◌∙◌, subst, arith, length-append, length-drop}
 use borrow.Rule.Slice.PartMut.{mid_of, post_of}
 use Rattle.std.proofs.lemmas.List.{length-map, length-take-le, take_at}
-use Rattle.std.proofs.lemmas.Bool.{le-leb, ltb-true, eqb-true}
 use Rattle.table.specs.Keys.{ahead}
 use Rattle.table.specs.Rows.{Above, Sorted, entry}
 use Rattle.tip_commands.proofs.Ordered.{to_sorted, from_sorted}
@@ -11,15 +10,13 @@ use Rattle.tip_commands.specs.Sets.{seats_of, keys_of}
 use Rattle.tip_commands.specs.declared.key_sets.KeySet.{KeySet}
 use Rattle.tips.specs.Counting.{weigh}
 use Rattle.tips.specs.Faults.{faults}
-use Rattle.tips.specs.Seats.{tips_of, opened, reseated, Ascending}
-use Rattle.tips.specs.Tips.{Holds, counted, highest, fitting, Sized}
-use Rattle.tips.specs.declared.set_size.SetSize.{SetSize}
+use Rattle.tips.specs.Seats.{tips_of, opened, Ascending}
+use Rattle.tips.specs.Tips.{Holds, counted, highest}
 use Rattle.tips.specs.declared.safe_tip.SafeTip.{SafeTip}
 use Rattle.types.specs.Numbers.{height}
 use Rattle.types.specs.declared.signers.Participant.{Participant}
 use Rattle.console_tips.specs.declared.boards.Board.{Board}
 use Rattle.console_tips.specs.Boards.{sitting}
-use Rattle.console_tips.specs.Doing.{fits, sat}
 use Rattle.console_tips.proofs.Holding.{holds, length-sitting}
 
 -- what is known of a board, by its parts
@@ -73,9 +70,6 @@ lent_keys_lem set keys e = ap (λ n. take n keys) (omega arith) ∙ e
 pub length-opened : (ks : List Participant) → length (opened ks) ≡ length ks
 length-opened ks = length-map ks (λ k. entry k (height 0))
 
-pub length-reseated : (ks : List Participant) (seats : Seats) → length (reseated ahead ks seats) ≡ length ks
-length-reseated ks seats = length-map ks _
-
 -- the slice of the seats that is lent
 pub lent_seats : (b : Board) → mid_of 0 (b.used - 0) b.seats ≡ sitting b
 lent_seats b = ap (λ n. take n b.seats) (omega arith)
@@ -88,23 +82,3 @@ holds_lent b = subst (λ (xs : Seats). Holds xs b.tables) (sym (lent_seats b)) (
 
 pub length_lent : (b : Board) → length (mid_of 0 (b.used - 0) b.seats) ≡ b.used
 length_lent b = ap length (lent_seats b) ∙ length-sitting b
-
-and_true : (t : Bool) → (t && true) ≡ t
-and_true true = refl
-and_true false = refl
-
--- as many keys as seats, where there are 16 at most
-fitting_is : (n m : ℕ) → m ≤ 16 → fitting n m ≡ eqb m n
-fitting_is n m l = ap (λ t. eqb m n && t) (le-leb m 16 l) ∙ and_true (eqb m n)
-
-pub sized_is : (n m n' m' : ℕ) (r : Result (Unit {0}) SetSize) → n ≡ n' → m ≡ m' → m ≤ 16 → Sized (fitting n m) n m r → Sized (eqb m' n') n' m' r
-sized_is n m n' m' r p q l s =
-    subst (λ (x : ℕ). Sized (eqb m' x) x m' r) p
-    (subst (λ (y : ℕ). Sized (eqb y n) n y r) q
-    (subst (λ (b : Bool). Sized b n m r) (fitting_is n m l) s))
-
--- a set that fits has a seat
-pub sat-some : (set seats : Seats) → fits set seats ≡ true → 0 < length (sat set seats)
-sat-some set [] e = omega (arith, ltb-true 0 (length set) e, length-opened (keys_of set), length-map set (λ x. x.key))
-sat-some set (s ∷ seats) e =
-    omega (arith, eqb-true (length set) (length (s ∷ seats)) e, length-reseated (keys_of set) (s ∷ seats), length-map set (λ x. x.key))

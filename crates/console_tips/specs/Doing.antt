@@ -1,5 +1,5 @@
 -- What a command does to the seats, and what is answered. Assumes nothing.
-use Rattle.std.specs.Prelude.{◌≡◌, ℕ, Bool, cond, List, [], ◌∷◌, length, Some, None, Option, ◌==◌, nat_lt}
+use Rattle.std.specs.Prelude.{Bool, cond, [], ◌∷◌, length, Some, None, Option, ◌==◌, nat_lt}
 use Rattle.table.specs.Keys.{ahead}
 use Rattle.table.specs.Rows.{at}
 use Rattle.tip_commands.specs.Order.{Seats}
@@ -12,7 +12,6 @@ use Rattle.types.specs.Numbers.{height}
 use Rattle.types.specs.declared.heights.Height.{Height}
 use Rattle.console_tips.specs.declared.answers.Answer.{Answer}
 use Rattle.console_tips.specs.declared.answers.Answer.TheVariants.{Seated, Counted, NotCounted, Refused}
-use Rattle.console_tips.specs.declared.answers.Refusal.{Refusal}
 use Rattle.console_tips.specs.declared.answers.Refusal.TheVariants.{Words, Size, NoSigners}
 
 -- whether a set can sit: the first one where it has a key, a later one where it has as many as there are seats
