@@ -1,13 +1,14 @@
 -- A set of a list without a fault fits. Assumes nothing.
-use Rattle.std.proofs.Common.{◌≡◌, ℕ, suc, ◌<◌, ◌≤◌, Bool, true, false, cond, not, ◌&&◌, eqb, ltb, List, [], ◌∷◌, length, take, is_some, Some, None, All, Option, sym, refl, ap, ◌∙◌, subst, ⊎_elim, arith}
+use Rattle.std.proofs.Common.{◌≡◌, ℕ, suc, ◌<◌, ◌≤◌, Bool, true, false, cond, not, eqb, ltb, List, [], ◌∷◌, length, is_some, Some, None, All, Option, sym, refl, ◌∙◌, subst, ⊎_elim, arith}
 use Rattle.std.proofs.lemmas.List.{length-map, length-take-le}
+use Rattle.std.proofs.lemmas.List.Elements.{All-nil, All-cons}
 use Rattle.std.proofs.lemmas.Bool.{cases_Bool, cond-true, cond-false, and_parts, eqb-true, ltb-true, ltb-false}
 use Rattle.std.specs.Str.{bytes_eq}
 use Rattle.types.specs.declared.bytes.PublicKey.{PublicKey}
 use Rattle.types.specs.declared.signers.Participant.{Participant}
 use Rattle.table.specs.Keys.{lower}
 use Rattle.provider.specs.Answers.{Bytes}
-use Rattle.provider.specs.Laws.{Ascending, KeySet}
+use Rattle.provider.specs.Laws.{Ascending}
 use Rattle.trial.specs.declared.epoch_set.EpochSet.{EpochSet}
 use Rattle.trial.specs.declared.fault.Fault.{Fault}
 use Rattle.trial.specs.declared.fault.Fault.TheVariants.{FewKeys, ManyKeys, EqualKeys, UnsortedKeys, OwnSigner}
@@ -56,9 +57,10 @@ ascending [] e = tt
 ascending (k ∷ ks) e = ascending-from 1 k ks e
 
 each_sized : (ks : List Bytes) → sized_keys ks ≡ true → All (λ k. length k ≡ 32) ks
-each_sized [] e = tt
+each_sized [] e = All-nil (λ (k : Bytes). length k ≡ 32)
 each_sized (k ∷ ks) e =
-    let both = and_parts (eqb (length k) 32) (sized_keys ks) e in (eqb-true (length k) 32 both.0, each_sized ks both.1)
+    let both = and_parts (eqb (length k) 32) (sized_keys ks) e in
+    All-cons (λ (k : Bytes). length k ≡ 32) k ks (eqb-true (length k) 32 both.0) (each_sized ks both.1)
 
 own_below : (n : ℕ) (me : Option Participant) → own_fault n me ≡ None → (p : Participant) → me ≡ Some p → p.0 < n
 own_below n None e p is = absurd (some_none p (sym is))

@@ -1,5 +1,5 @@
 -- What holds of every set in a list without a fault. Assumes nothing.
-use Rattle.std.specs.Prelude.{◌≡◌, ◌<◌, ◌≤◌, true, false, length, Some, None, Option}
+use Rattle.std.specs.Prelude.{◌≡◌, ◌<◌, ◌≤◌, length, Some}
 use Rattle.types.specs.declared.signers.Participant.{Participant}
 use Rattle.provider.specs.Laws.{KeySet}
 use Rattle.trial.specs.declared.epoch_set.EpochSet.{EpochSet}

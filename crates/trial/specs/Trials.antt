@@ -1,5 +1,5 @@
 -- What a trial answers of keys, own signers and signatures, over a list of epochs. Assumes nothing.
-use Rattle.std.specs.Prelude.{ℕ, Bool, true, false, ◌&&◌, List, Some, None, Option, nat_lt}
+use Rattle.std.specs.Prelude.{ℕ, Bool, false, ◌&&◌, List, Some, None, Option, nat_lt}
 use Rattle.std.specs.Option.{option_map}
 use Rattle.std.specs.Str.{bytes_eq}
 use Rattle.provider.specs.Answers.{Bytes}
@@ -34,8 +34,8 @@ signed_by o h d = option_map (λ i. tagged i h d) o
 abbrev pub keys_at : List EpochSet → ℕ → Option (List Bytes)
 keys_at ss e = keys_among (set_at e ss)
 
-abbrev pub field_own : List EpochSet → ℕ → Option ℕ
-field_own ss e = own_among (set_at e ss)
+abbrev pub own_at : List EpochSet → ℕ → Option ℕ
+own_at ss e = own_among (set_at e ss)
 
 abbrev pub accepts_at : List EpochSet → ℕ → ℕ → ℕ → Bytes → Bytes → Bool
 accepts_at ss e i h d s = accepted_among (set_at e ss) i h d s

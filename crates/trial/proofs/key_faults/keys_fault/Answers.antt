@@ -1,4 +1,4 @@
-use Rattle.std.proofs.Common.{◌≡◌, ℕ, ◌-◌, ◌<◌, List, [], length, take, drop, sym, refl, ap, ◌∙◌, rules}
+use Rattle.std.proofs.Common.{◌≡◌, ◌-◌, ◌<◌, List, [], length, take, drop, sym, ap, ◌∙◌, rules}
 use Rattle.std.proofs.lemmas.List.{nil_from_length}
 use Rattle.types.specs.declared.bytes.PublicKey.{PublicKey}
 use Rattle.provider.specs.Answers.{Bytes}
@@ -20,8 +20,8 @@ pub returns-in-len1-up : goal.returns-in-len1-up
 returns-in-len1-up c =
     let ks = c.args.keys.now in
     let some : 0 < length ks = search rules in
-    let whole = ap (λ (k : Bytes). key_faults 1 k (key_bytes (take (length ks - 1) (drop 1 ks)))) c.by-value.ensures.value in
+    let whole = ap (λ (k : Bytes). key_faults 1 k (key_bytes (take (length ks - 1) (drop 1 ks)))) c.by_value.ensures.value in
     record {
-      fault = c.rest-fault.ensures.fault ∙ whole ∙ sym (keys_from ks _ some);
-      sized = λ none. sizes-from ks _ some c.by-value.ensures.sized (c.rest-fault.ensures.sized none);
+      fault = c.rest_fault.ensures.fault ∙ whole ∙ sym (keys_from ks _ some);
+      sized = λ none. sizes-from ks _ some c.by_value.ensures.sized (c.rest_fault.ensures.sized none);
     }

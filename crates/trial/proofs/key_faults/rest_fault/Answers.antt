@@ -8,7 +8,7 @@ loop-i-preserved c =
     let i = c.loop-i.i in
     let within = c.loop-i-test.true in (
       keys-more ks i _ within _ _ c.in-None.ensures.fault c.loop-i.invariant.0,
-      sizes-more ks i _ within c.neighbour-fault.ensures.sized _ c.loop-i.invariant.1,
+      sizes-more ks i _ within c.neighbour_fault.ensures.sized _ c.loop-i.invariant.1,
     )
 
 pub returns-in-Some : goal.returns-in-Some

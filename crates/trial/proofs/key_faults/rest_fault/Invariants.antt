@@ -1,4 +1,4 @@
-use Rattle.std.proofs.Common.{◌≡◌, ℕ, ◌+◌, true, length, drop}
+use Rattle.std.proofs.Common.{◌≡◌, ◌+◌, true, drop}
 use Rattle.provider.specs.Values.{key_bytes}
 use Rattle.trial.specs.Faults.{key_faults}
 use Rattle.trial.specs.Sizes.{sized_keys}

@@ -5,4 +5,4 @@ use Rattle.std.proofs.lemmas.Bool.Decides.{Decides-eqb}
 
 pub returns : goal.returns
 returns c =
-    let d = slice_eq-Decides Decides-eqb _ _ _ c.eq.ensures in record { same = search (rules, bytes_eq-Decides); sized = search rules }
+    let d = slice_eq-Decides Decides-eqb c.args.low.now.bytes c.args.high.now.bytes c.eq.result c.eq.ensures in record { same = search (rules, bytes_eq-Decides); sized = search rules }

@@ -1,4 +1,4 @@
-use Rattle.std.proofs.Common.{◌≡◌, true, length, drop, None}
+use Rattle.std.proofs.Common.{◌≡◌, true, drop, None}
 use Rattle.trial.specs.Epochs.{epoch_number}
 use Rattle.trial.specs.Faults.{faults_from}
 use Rattle.trial.specs.Sizes.{sized_sets}

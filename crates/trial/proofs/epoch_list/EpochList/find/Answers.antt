@@ -1,4 +1,4 @@
-use Rattle.std.proofs.Common.{sym, rules}
+use Rattle.std.proofs.Common.{sym}
 use Rattle.trial.proofs.Checked.{fits}
 use Rattle.trial.proofs.Sets.{found_here, found-more, found_all}
 use Rattle.trial.proofs.epoch_list.EpochList.find.Goals as goal

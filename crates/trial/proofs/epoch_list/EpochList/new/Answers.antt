@@ -2,6 +2,6 @@ use Rattle.std.proofs.Common.{refl}
 use Rattle.trial.specs.Faults.{list_fault}
 use Rattle.trial.proofs.epoch_list.EpochList.new.Goals as goal
 
-pub invariant-of-result : goal.invariant-of-result
+pub invariant_of-result : goal.invariant_of-result
 unfolding list_fault
-invariant-of-result c = (refl, (refl, tt))
+invariant_of-result c = record { sound = refl; sized = refl }
