@@ -1,6 +1,7 @@
 -- The test for enough signers, and what it says. Assumes nothing.
-use Rattle.std.proofs.Common.{◌≡◌, ℕ, suc, ◌+◌, ◌<◌, ◌≤◌, Bool, true, false, ◌&&◌, ltb, leb, List, [], ◌∷◌, length, All, sym, refl, arith}
+use Rattle.std.proofs.Common.{◌≡◌, ℕ, suc, ◌<◌, ◌≤◌, true, ◌&&◌, ltb, leb, List, [], ◌∷◌, length, All, refl, arith}
 use Rattle.std.proofs.lemmas.Bool.{and_parts, and_from, leb-true, ltb-true, le-leb, lt-ltb}
+use Rattle.std.proofs.lemmas.List.Elements.{All-nil, All-cons, All-head, All-tail}
 use Rattle.provider.specs.Laws.{Ascending, Enough}
 use Rattle.tips.specs.Faults.{quorum}
 use Rattle.bitmaps.specs.Maps.{rising, enough, all_below}
@@ -15,11 +16,11 @@ ascends next n (i ∷ j ∷ js) up =
     (lt-ltb i j (leb-true (suc i) j first.0), ascends (suc i) n (j ∷ js) more.1)
 
 each_below : (next n : ℕ) (is : List ℕ) → rising next n is ≡ true → All (λ i. i < n) is
-each_below next n [] up = tt
+each_below next n [] up = All-nil (λ (i : ℕ). i < n)
 each_below next n (i ∷ is) up =
     let parts = and_parts (leb next i) (ltb i n && rising (suc i) n is) up in
     let more = and_parts (ltb i n) (rising (suc i) n is) parts.1 in
-    (ltb-true i n more.0, each_below (suc i) n is more.1)
+    All-cons (λ (j : ℕ). j < n) i is (ltb-true i n more.0) (each_below (suc i) n is more.1)
 
 pub all-below : (next n : ℕ) (is : List ℕ) → rising next n is ≡ true → all_below n is ≡ true
 all-below next n [] up = refl
@@ -30,10 +31,11 @@ all-below next n (i ∷ is) up =
 
 rises : (next n i : ℕ) (is : List ℕ) → next ≤ i → Ascending ltb (i ∷ is) → All (λ j. j < n) (i ∷ is) → rising next n (i ∷ is) ≡ true
 rises next n i [] from up below =
-    and_from (leb next i) (ltb i n && true) (le-leb next i from) (and_from (ltb i n) true (lt-ltb i n below.0) refl)
+    and_from (leb next i) (ltb i n && true) (le-leb next i from) (and_from (ltb i n) true (lt-ltb i n (All-head (λ (j : ℕ). j < n) i [] below)) refl)
 rises next n i (j ∷ js) from up below =
     and_from (leb next i) (ltb i n && rising (suc i) n (j ∷ js)) (le-leb next i from)
-    (and_from (ltb i n) (rising (suc i) n (j ∷ js)) (lt-ltb i n below.0) (rises (suc i) n j js (ltb-true i j up.0) up.1 below.1))
+    (and_from (ltb i n) (rising (suc i) n (j ∷ js)) (lt-ltb i n (All-head (λ (x : ℕ). x < n) i (j ∷ js) below))
+    (rises (suc i) n j js (ltb-true i j up.0) up.1 (All-tail (λ (x : ℕ). x < n) i (j ∷ js) below)))
 
 rises_all : (n : ℕ) (is : List ℕ) → Ascending ltb is → All (λ j. j < n) is → rising 0 n is ≡ true
 rises_all n [] up below = refl

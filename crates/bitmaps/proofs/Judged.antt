@@ -1,12 +1,12 @@
 -- A certificate passes where there is no reason against it, and a reason against it holds. Assumes nothing.
-use Rattle.std.proofs.Common.{◌≡◌, ℕ, ◌+◌, ◌-◌, ◌*◌, ◌<◌, ◌≤◌, Bool, true, false, cond, not, ◌&&◌, ltb, leb, List, [], ◌∷◌, length, get_or, take, drop, is_some, Some, None, Option, sym, refl, ap, ◌∙◌, subst, ⊎_elim, arith}
+use Rattle.std.proofs.Common.{◌≡◌, ℕ, ◌-◌, ◌≤◌, Bool, true, false, cond, not, ◌&&◌, ltb, leb, List, ◌∷◌, length, get_or, take, drop, is_some, Some, None, Option, sym, refl, ap, ◌∙◌, subst, ⊎_elim, arith}
 use Rattle.std.proofs.lemmas.List.{drop_more, take_rest}
 use Rattle.std.proofs.lemmas.Bool.{cases_lt, lt-ltb, le-ltb, le-leb, lt-leb, ltb-true}
 use Rattle.tips.specs.Faults.{quorum}
 use Rattle.bitmaps.specs.declared.rejection.Rejection.{Rejection}
 use Rattle.bitmaps.specs.declared.rejection.Rejection.TheVariants.{SignerOutside, TooFew, WrongLength, BadSignature}
 use Rattle.bitmaps.specs.Maps.{all_below}
-use Rattle.bitmaps.specs.Verdicts.{withMap, passes, verdict, Says}
+use Rattle.bitmaps.specs.Verdicts.{passes, verdict, Says}
 
 -- four tests in a row
 chain : (a b c d : Bool) → (a && (b && (c && d)))

@@ -1,15 +1,15 @@
 -- What is common to certificates that begin with the map of their signers. Assumes nothing.
-use Rattle.std.specs.Prelude.{◌≡◌, ℕ, ◌+◌, ◌*◌, ◌<◌, Bool, true, false, cond, not, ◌&&◌, List, [], ◌∷◌, length, Some, None, Option, nat_le, nat_lt}
+use Rattle.std.specs.Prelude.{◌≡◌, ℕ, ◌+◌, ◌*◌, ◌<◌, Bool, false, cond, not, ◌&&◌, List, [], ◌∷◌, length, Some, None, Option, nat_le, nat_lt}
 use Rattle.tips.specs.Faults.{quorum}
 use Rattle.bitmaps.specs.declared.rejection.Rejection.{Rejection}
 use Rattle.bitmaps.specs.declared.rejection.Rejection.TheVariants.{UnknownEpoch, NoMap, SignerOutside, TooFew, WrongLength, BadSignature}
 use Rattle.bitmaps.specs.Maps.{all_below}
 
 -- a certificate by its map, the higher byte first, and what follows it; or nothing, where it has no whole map
-abbrev pub withMap {ℓ} : {A : Type ℓ} → A → (ℕ → List ℕ → A) → List ℕ → A
-withMap none f [] = none
-withMap none f (a ∷ []) = none
-withMap none f (a ∷ b ∷ body) = f (a * 256 + b) body
+abbrev pub with_map {ℓ} : {A : Type ℓ} → A → (ℕ → List ℕ → A) → List ℕ → A
+with_map none f [] = none
+with_map none f (a ∷ []) = none
+with_map none f (a ∷ b ∷ body) = f (a * 256 + b) body
 
 -- of n signers, those that stand pass with what follows the map: no bit is n or above, n − f or more stand, the length fits, and what is signed is good
 abbrev pub passes : ℕ → List ℕ → Bool → Bool → Bool

@@ -10,14 +10,14 @@ pub returns-then-attestations-quorum : goal.returns-then-attestations-quorum
 returns-then-attestations-quorum c =
     let qs = c.args.attestations.now in sym (few c.args.n (signers_in qs) (omega (arith, signers_length qs)))
 
-pub returns-then-not-in-turn : goal.returns-then-not-in-turn
-returns-then-not-in-turn c =
+pub returns-then-not-in_turn : goal.returns-then-not-in_turn
+returns-then-not-in_turn c =
     let qs = c.args.attestations.now in
-    sym (unordered c.args.n (signers_in qs) (rising_stop qs c.loop-attestation.attestation-index _ c.loop-attestation-test.true c.loop-attestation.next c.args.n _ (sym c.if-not-in-turn.ensures) c.loop-attestation.invariant.0))
+    sym (unordered c.args.n (signers_in qs) (rising_stop qs c.loop-attestation.attestation-index _ c.loop-attestation-test.true c.loop-attestation.next c.args.n _ (sym c.if-not-in_turn.ensures) c.loop-attestation.invariant.0))
 
-pub with-signer-map-requires : goal.with-signer-map-requires
-with-signer-map-requires c =
-    let t = turn c.loop-attestation.next c.args.n _ c.loop-attestation.map (sym c.if-not-in-turn.ensures) c.loop-attestation.invariant.2 in
+pub with_signer-map-requires : goal.with_signer-map-requires
+with_signer-map-requires c =
+    let t = turn c.loop-attestation.next c.args.n _ c.loop-attestation.map (sym c.if-not-in_turn.ensures) c.loop-attestation.invariant.2 in
     (omega (arith, t.small), t.before)
 
 pub loop-attestation-preserved : goal.loop-attestation-preserved
@@ -25,11 +25,11 @@ loop-attestation-preserved c =
     let qs = c.args.attestations.now in
     let i = c.loop-attestation.attestation-index in
     let within = c.loop-attestation-test.true in
-    let at = sym c.if-not-in-turn.ensures in
+    let at = sym c.if-not-in_turn.ensures in
     let t = turn c.loop-attestation.next c.args.n _ c.loop-attestation.map at c.loop-attestation.invariant.2 in (
       rising-more qs i _ within c.loop-attestation.next c.args.n _ at c.loop-attestation.invariant.0,
-      map_more qs i _ within c.loop-attestation.map _ _ c.with-signer-map.ensures c.loop-attestation.invariant.1,
-      t.after _ c.with-signer-map.ensures,
+      map_more qs i _ within c.loop-attestation.map _ _ c.with_signer-map.ensures c.loop-attestation.invariant.1,
+      t.after _ c.with_signer-map.ensures,
       omega (arith, t.small),
     )
 

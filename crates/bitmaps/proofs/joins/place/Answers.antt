@@ -4,4 +4,4 @@ use Rattle.bitmaps.proofs.joins.place.Goals as goal
 
 pub returns-then-part-bytes : goal.returns-then-part-bytes
 returns-then-part-bytes c =
-    placed-write c.args.at _ c.args.part.now c.args.bytes.now c.copy-from-slice.new.self (omega arith) (omega arith) c.copy-from-slice.ensures.after
+    placed-write c.args.at _ c.args.part.now c.args.bytes.now c.copy_from_slice.new.self (omega arith) (omega arith) c.copy_from_slice.ensures.after

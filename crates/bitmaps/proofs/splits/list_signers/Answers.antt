@@ -1,4 +1,4 @@
-use Rattle.std.proofs.Common.{◌≡◌, ℕ, ◌+◌, ◌-◌, ◌<◌, List, ◌++◌, length, take, sym, ap, ◌∙◌, arith}
+use Rattle.std.proofs.Common.{ℕ, ◌+◌, ◌-◌, ◌<◌, List, ◌++◌, length, take, sym, ap, ◌∙◌, arith}
 use Rattle.bitmaps.specs.Maps.{standing_from}
 use Rattle.bitmaps.proofs.Listed.{listed_more, listed_same, listed-all, listed_none}
 use Rattle.bitmaps.proofs.splits.list_signers.Goals.{then-stands, else-stands}
