@@ -1,5 +1,5 @@
 -- What a console counts. Assumes nothing.
-use Rattle.std.specs.Prelude.{ℕ, ◌+◌, ◌-◌, ◌^◌, min, Bool, true, false, cond}
+use Rattle.std.specs.Prelude.{ℕ, ◌+◌, ◌-◌, ◌^◌, min, Bool, true, false}
 use Rattle.console_tips.specs.declared.answers.Answer.{Answer}
 use Rattle.console_tips.specs.declared.answers.Answer.TheVariants.{Seated, Counted, NotCounted, Refused}
 use Rattle.console.specs.declared.replies.Reply.{Reply}

@@ -1,8 +1,6 @@
 -- What a line says to the console, and what is replied. Assumes nothing.
-use Rattle.std.specs.Prelude.{◌≡◌, ℕ, Bool, true, false, cond, List, [], ◌∷◌, Some, None, Option, ◌==◌}
+use Rattle.std.specs.Prelude.{◌≡◌, ℕ, Bool, false, cond, List, [], ◌∷◌, Some, None, Option, ◌==◌}
 use Rattle.console_tips.specs.Doing.{after, answer, shown_tip, Shows}
-use Rattle.console_tips.specs.declared.answers.Answer.{Answer}
-use Rattle.console_tips.specs.declared.answers.Answer.TheVariants.{Seated, Counted, NotCounted, Refused}
 use Rattle.text.specs.Words.{words}
 use Rattle.tip_commands.specs.Order.{Seats}
 use Rattle.tip_commands.specs.Reading.{Said, command}
