@@ -1,7 +1,7 @@
 -- What `rank` tells of the other functions of a table. Assumes nothing.
-use Rattle.std.proofs.Common.{◌≡◌, ℕ, suc, ◌+◌, ◌<◌, ◌≤◌, Bool, true, false, cond, List, [], ◌∷◌, length, get_or, drop, set, Some, None, Option, sym, refl, ap, ◌∙◌, arith}
+use Rattle.std.proofs.Common.{◌≡◌, ℕ, suc, ◌<◌, ◌≤◌, Bool, true, false, cond, List, [], ◌∷◌, length, get_or, set, Some, None, Option, sym, refl, ap, ◌∙◌, arith}
 use Rattle.std.specs.List.{insert, remove}
-use Rattle.std.proofs.lemmas.List.{at_drop_more, get_or_default}
+use Rattle.std.proofs.lemmas.List.{get_or_default}
 use Rattle.table.specs.declared.Entry.{Entry}
 use Rattle.table.specs.Rows.{entry, onward, rank, place, at, put, without}
 
@@ -79,19 +79,6 @@ module _ {K V : Type 0} (less : K → K → Bool) (k : K) where
             putting = λ v. rw (h, here) refl;
             leaving = rw (h, here) refl;
           }
-
-  -- the steps of a loop that counts
-  pub rank_yes : (es : List (Entry K V)) (i : ℕ) (e : Entry K V) → i < length es → e ≡ get_or es i e → less e.key k ≡ true → rank less k (drop i es) ≡ suc (rank less k (drop (i + 1) es))
-  rank_yes es i e in' is h =
-      at_drop_more (rank less k) es i e in'
-      ∙ ap (λ (y : Entry K V). rank less k (y ∷ drop (i + 1) es)) (sym is)
-      ∙ ap (λ b. cond b (suc (rank less k (drop (i + 1) es))) 0) h
-
-  pub rank_no : (es : List (Entry K V)) (i : ℕ) (e : Entry K V) → i < length es → e ≡ get_or es i e → less e.key k ≡ false → rank less k (drop i es) ≡ 0
-  rank_no es i e in' is h =
-      at_drop_more (rank less k) es i e in'
-      ∙ ap (λ (y : Entry K V). rank less k (y ∷ drop (i + 1) es)) (sym is)
-      ∙ ap (λ b. cond b (suc (rank less k (drop (i + 1) es))) 0) h
 
   -- what a test at the place i, the rank, tells
   pub hit_at : (es : List (Entry K V)) (i : ℕ) (d : Entry K V) → i ≡ rank less k es → i < length es → less k (get_or es i d).key ≡ false → Hit es (get_or es i d)

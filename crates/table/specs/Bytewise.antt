@@ -1,7 +1,6 @@
 -- The order by bytes is total. Assumes nothing.
-use Rattle.std.specs.Prelude.{◌≡◌, ℕ, ◌+◌, ◌<◌, Bool, true, false, cond, ltb, List, [], ◌∷◌, length, drop, nat_lt, slice_index, refl}
+use Rattle.std.specs.Prelude.{◌≡◌, ℕ, Bool, true, false, ltb, List, [], ◌∷◌, refl}
 use Rattle.std.proofs.Common.{ap, ◌∙◌, arith}
-use Rattle.std.proofs.lemmas.List.{drop_more}
 use Rattle.std.proofs.lemmas.Bool.Decides.{nat_tests}
 use Rattle.table.specs.Order.{Total}
 use Rattle.table.specs.Keys.{lower}
@@ -35,8 +34,3 @@ tied (x ∷ xs) (y ∷ ys) p q =
 
 pub lower_total : Total lower
 lower_total = record { never = never; trans = trans; tied = tied }
-
--- one byte on
-pub lower_step : (xs ys : List ℕ) (i : ℕ) → i < length xs → i < length ys → lower (drop i xs) (drop i ys) ≡ cond (nat_lt (slice_index xs i) (slice_index ys i)) true (cond (nat_lt (slice_index ys i) (slice_index xs i)) false (lower (drop (i + 1) xs) (drop (i + 1) ys)))
-lower_step xs ys i h k =
-    ap (λ l. lower l (drop i ys)) (drop_more xs i 0 h) ∙ ap (lower (slice_index xs i ∷ drop (i + 1) xs)) (drop_more ys i 0 k)
