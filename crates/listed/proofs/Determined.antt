@@ -1,11 +1,12 @@
 -- A certificate determines its signers and their signatures. Assumes nothing.
-use Rattle.std.proofs.Common.{◌≡◌, ℕ, ◌+◌, ◌*◌, ◌/◌, ◌%◌, ◌≤◌, true, ◌&&◌, leb, List, [], ◌∷◌, ◌++◌, length, get_or, take, drop, sym, refl, ap, ◌∙◌, arith}
+use Rattle.std.proofs.Common.{◌≡◌, ℕ, ◌≤◌, leb, List, [], ◌∷◌, ◌++◌, length, get_or, take, drop, sym, refl, ap, ◌∙◌, arith}
 use Rattle.std.proofs.lemmas.List.{take_at, drop_at, take_all}
+use Rattle.std.proofs.lemmas.List.Elements.{All-head, All-tail}
 use Rattle.std.proofs.lemmas.Bool.{and_parts}
 use Rattle.tips.specs.Faults.{quorum}
 use Rattle.bitmaps.proofs.Enoughs.{tells-enough}
 use Rattle.bitmaps.proofs.Returns.{returned, sixteen, two_back}
-use Rattle.bitmaps.specs.Maps.{map_in, map_of, rising, standing, two_bytes}
+use Rattle.bitmaps.specs.Maps.{map_in, map_of, rising, standing}
 use Rattle.provider.specs.Answers.{Attested, Bytes}
 use Rattle.provider.specs.Laws.{Enough, signers_of}
 use Rattle.listed.specs.Certificates.{signatures, certificate_of}
@@ -35,12 +36,16 @@ same_each [] [] one two signers bodies = refl
 same_each [] (q ∷ qs) one two signers bodies = let z : ◌≡◌ {A = ℕ} 0 1 = cc in absurd (omega arith)
 same_each (p ∷ ps) [] one two signers bodies = let z : ◌≡◌ {A = ℕ} 0 1 = cc in absurd (omega arith)
 same_each (p ∷ ps) (q ∷ qs) one two signers bodies =
+    let long-one : length p.signature ≡ 64 = All-head (λ (r : Attested). length r.signature ≡ 64) p ps one in
+    let long-two : length q.signature ≡ 64 = All-head (λ (r : Attested). length r.signature ≡ 64) q qs two in
+    let rest-one : Sized ps = All-tail (λ (r : Attested). length r.signature ≡ 64) p ps one in
+    let rest-two : Sized qs = All-tail (λ (r : Attested). length r.signature ≡ 64) q qs two in
     let signer : p.signer ≡ q.signer = ap (λ (is : List ℕ). get_or is 0 0) signers in
     let signature : p.signature ≡ q.signature =
-    sym (front p.signature (signatures ps) one.0) ∙ ap (take 64) bodies ∙ front q.signature (signatures qs) two.0 in
+    sym (front p.signature (signatures ps) long-one) ∙ ap (take 64) bodies ∙ front q.signature (signatures qs) long-two in
     let later : signatures ps ≡ signatures qs =
-    sym (back p.signature (signatures ps) one.0) ∙ ap (drop 64) bodies ∙ back q.signature (signatures qs) two.0 in
-    let rest : ps ≡ qs = same_each ps qs one.1 two.1 (ap (drop 1) signers) later in
+    sym (back p.signature (signatures ps) long-one) ∙ ap (drop 64) bodies ∙ back q.signature (signatures qs) long-two in
+    let rest : ps ≡ qs = same_each ps qs rest-one rest-two (ap (drop 1) signers) later in
     ap (λ (i : ℕ). record { signer = i; signature = p.signature } ∷ ps) signer
     ∙ ap (λ (s : Bytes). record { signer = q.signer; signature = s } ∷ ps) signature
     ∙ ap (λ (rs : List Attested). q ∷ rs) rest

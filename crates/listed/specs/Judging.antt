@@ -1,7 +1,7 @@
 -- Which listed certificates are accepted, and why another is not. Assumes nothing.
 use Rattle.std.specs.Prelude.{ℕ, ◌*◌, Bool, true, false, ◌&&◌, List, [], ◌∷◌, length, take, drop, Some, None, Option, ◌==◌}
 use Rattle.bitmaps.specs.Maps.{standing}
-use Rattle.bitmaps.specs.Verdicts.{withMap, passes, verdict}
+use Rattle.bitmaps.specs.Verdicts.{with_map, passes, verdict}
 use Rattle.bitmaps.specs.declared.rejection.Rejection.{Rejection}
 use Rattle.bitmaps.specs.declared.rejection.Rejection.TheVariants.{UnknownEpoch, NoMap}
 use Rattle.provider.specs.Answers.{Bytes}
@@ -21,7 +21,7 @@ abbrev pub accepted_body : ℕ → (ℕ → Bytes → Bool) → List ℕ → Byt
 accepted_body n ok is body = passes n is (fits is body) (each_accepted ok is body)
 
 abbrev pub valid_for : ℕ → (ℕ → Bytes → Bool) → Bytes → Bool
-valid_for n ok c = withMap false (λ m body. accepted_body n ok (standing m) body) c
+valid_for n ok c = with_map false (λ m body. accepted_body n ok (standing m) body) c
 
 -- and the epoch is known
 abbrev pub valid_in : Option EpochSet → (ℕ → Bytes → Bool) → Bytes → Bool
@@ -33,7 +33,7 @@ abbrev pub reject_body : ℕ → (ℕ → Bytes → Bool) → List ℕ → Bytes
 reject_body n ok is body = verdict n is (fits is body) (each_accepted ok is body)
 
 abbrev pub reject_for : ℕ → (ℕ → Bytes → Bool) → Bytes → Option Rejection
-reject_for n ok c = withMap (Some NoMap) (λ m body. reject_body n ok (standing m) body) c
+reject_for n ok c = with_map (Some NoMap) (λ m body. reject_body n ok (standing m) body) c
 
 -- the first reason against a certificate, if there is one
 abbrev pub reject_in : Option EpochSet → (ℕ → Bytes → Bool) → Bytes → Option Rejection

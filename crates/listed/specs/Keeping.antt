@@ -1,7 +1,8 @@
 -- The listed provider keeps the laws of every provider: the proof that its trait asks for. Assumes nothing.
-use Rattle.std.specs.Prelude.{◌≡◌, ℕ, ◌+◌, ◌*◌, ◌/◌, ◌%◌, ◌<◌, ◌≤◌, Bool, true, false, cond, ◌&&◌, List, [], ◌∷◌, ◌++◌, length, take, drop, Some, None, All, Option, ◌==◌, nat_le, refl}
+use Rattle.std.specs.Prelude.{◌≡◌, ℕ, ◌+◌, ◌*◌, ◌/◌, ◌%◌, ◌≤◌, Bool, true, ◌&&◌, List, [], ◌∷◌, ◌++◌, length, take, drop, Some, None, All, Option, ◌==◌, nat_le, refl}
 use Rattle.std.proofs.Common.{sym, ap, subst, ◌∙◌, arith}
 use Rattle.std.proofs.lemmas.List.{length-append, length-map, length-take, take_at, drop_at, take_all}
+use Rattle.std.proofs.lemmas.List.Elements.{All-nil, All-cons, All-head, All-tail}
 use Rattle.std.proofs.lemmas.Bool.{and_parts, and_from, eq-eqb, eqb-true, le-leb, leb-true, cond-true, false≢true}
 use Rattle.tips.specs.Faults.{quorum}
 use Rattle.bitmaps.proofs.Mapped.{made}
@@ -9,7 +10,7 @@ use Rattle.bitmaps.proofs.Enoughs.{says-enough, tells-enough, all-below}
 use Rattle.bitmaps.proofs.Returns.{returned, sixteen, two_back, room, standing-few}
 use Rattle.bitmaps.specs.Maps.{all_below, enough, map_of, rising, standing}
 use Rattle.provider.specs.Answers.{Attested, Bytes}
-use Rattle.provider.specs.Laws.{Enough, Lawful, Sound, signers_of}
+use Rattle.provider.specs.Laws.{Enough, Lawful, signers_of}
 use Rattle.trial.proofs.Checked.{fits, some_none}
 use Rattle.trial.proofs.Kept.{set-kept, size-kept, member-kept, signs-kept, silent-kept}
 use Rattle.trial.specs.declared.epoch_set.EpochSet.{EpochSet}
@@ -18,7 +19,7 @@ use Rattle.trial.specs.Fits.{Fit}
 use Rattle.trial.specs.Sets.{keys_in, set_at}
 use Rattle.trial.specs.Sizes.{sized_sets}
 use Rattle.trial.specs.Trials.{keys_among, own_among, accepted_among, accepts_at}
-use Rattle.listed.specs.Certificates.{signatures, certificate_of, assemble_for, assemble_in}
+use Rattle.listed.specs.Certificates.{signatures, certificate_of, assemble_in}
 use Rattle.listed.specs.Judging.{each_accepted, accepted_body, valid_for, valid_in}
 use Rattle.listed.specs.Listing.{listed}
 
@@ -35,18 +36,22 @@ accepted_each : (ok : ℕ → Bytes → Bool) (qs : List Attested) → All (λ (
     → each_accepted ok (signers_of qs) (signatures qs) ≡ true
 accepted_each ok [] good sized = refl
 accepted_each ok (q ∷ qs) good sized =
-    let whole : take 64 q.signature ≡ q.signature = take_all 64 q.signature (omega (arith, sized.0)) in
+    let long : length q.signature ≡ 64 = All-head (λ (p : Attested). length p.signature ≡ 64) q qs sized in
+    let whole : take 64 q.signature ≡ q.signature = take_all 64 q.signature (omega arith) in
     let front : take 64 (take 64 q.signature ++ signatures qs) ≡ q.signature =
-    take_at (take 64 q.signature) (signatures qs) 64 (ap length whole ∙ sized.0) ∙ whole in
+    take_at (take 64 q.signature) (signatures qs) 64 (ap length whole ∙ long) ∙ whole in
     let back : drop 64 (take 64 q.signature ++ signatures qs) ≡ signatures qs =
-    drop_at (take 64 q.signature) (signatures qs) 64 (ap length whole ∙ sized.0) in
+    drop_at (take 64 q.signature) (signatures qs) 64 (ap length whole ∙ long) in
     and_from (ok q.signer (take 64 (take 64 q.signature ++ signatures qs))) (each_accepted ok (signers_of qs) (drop 64 (take 64 q.signature ++ signatures qs)))
-    (ap (ok q.signer) front ∙ good.0)
-    (ap (each_accepted ok (signers_of qs)) back ∙ accepted_each ok qs good.1 sized.1)
+    (ap (ok q.signer) front ∙ All-head (λ (p : Attested). ok p.signer p.signature ≡ true) q qs good)
+    (ap (each_accepted ok (signers_of qs)) back ∙ accepted_each ok qs (All-tail (λ (p : Attested). ok p.signer p.signature ≡ true) q qs good) (All-tail (λ (p : Attested). length p.signature ≡ 64) q qs sized))
 
 exactly : (qs : List Attested) → All (λ (q : Attested). length q.signature ≡ 64) qs → length (signatures qs) ≡ 64 * length qs
 exactly [] sized = omega arith
-exactly (q ∷ qs) sized = omega (arith, length-append (take 64 q.signature) (signatures qs), length-take 64 q.signature, sized.0, exactly qs sized.1)
+exactly (q ∷ qs) sized =
+    let long : length q.signature ≡ 64 = All-head (λ (p : Attested). length p.signature ≡ 64) q qs sized in
+    let rest = exactly qs (All-tail (λ (p : Attested). length p.signature ≡ 64) q qs sized) in
+    omega (arith, length-append (take 64 q.signature) (signatures qs), length-take 64 q.signature, long, rest)
 
 pub accepted_for : (n : ℕ) (ok : ℕ → Bytes → Bool) (qs : List Attested) → n ≤ 16 → enough n (signers_of qs) ≡ true → All (λ (q : Attested). ok q.signer q.signature ≡ true) qs
     → All (λ (q : Attested). length q.signature ≡ 64) qs → valid_for n ok (certificate_of qs) ≡ true
@@ -90,8 +95,11 @@ no_other_in (Some s) fit qs c e =
     (keys_in s, refl, subst (λ (n : ℕ). Enough n (signers_of qs)) (sym f.count) many, subst (λ (b : Bytes). length b ≤ 1026) by.1 size)
 
 sizes : (o : Option EpochSet) (h : ℕ) (d : Bytes) (qs : List Attested) → All (λ (q : Attested). accepted_among o q.signer h d q.signature ≡ true) qs → All (λ (q : Attested). length q.signature ≡ 64) qs
-sizes o h d [] good = tt
-sizes o h d (q ∷ qs) good = (size-kept o q.signer h d q.signature good.0, sizes o h d qs good.1)
+sizes o h d [] good = All-nil (λ (q : Attested). length q.signature ≡ 64)
+sizes o h d (q ∷ qs) good =
+    All-cons (λ (p : Attested). length p.signature ≡ 64) q qs
+    (size-kept o q.signer h d q.signature (All-head (λ (p : Attested). accepted_among o p.signer h d p.signature ≡ true) q qs good))
+    (sizes o h d qs (All-tail (λ (p : Attested). accepted_among o p.signer h d p.signature ≡ true) q qs good))
 
 accepted_in : (o : Option EpochSet) (h : ℕ) (d : Bytes) (qs : List Attested) (c : Bytes) → assemble_in o qs ≡ Some c
     → All (λ (q : Attested). accepted_among o q.signer h d q.signature ≡ true) qs → valid_in o (λ i s. accepted_among o i h d s) c ≡ true

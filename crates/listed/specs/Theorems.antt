@@ -3,7 +3,7 @@ use Rattle.std.specs.Prelude.{◌≡◌, ℕ, ◌≤◌, Bool, true, not, List, 
 use Rattle.bitmaps.specs.declared.rejection.Rejection.{Rejection}
 use Rattle.bitmaps.specs.declared.rejection.Rejection.TheVariants.{UnknownEpoch, NoMap}
 use Rattle.bitmaps.specs.Maps.{standing}
-use Rattle.bitmaps.specs.Verdicts.{withMap, Says}
+use Rattle.bitmaps.specs.Verdicts.{with_map, Says}
 use Rattle.provider.specs.Answers.{Attested, Bytes}
 use Rattle.provider.specs.Laws.{Enough, signers_of}
 use Rattle.trial.specs.declared.epoch_set.EpochSet.{EpochSet}
@@ -30,7 +30,7 @@ DeterminesSignatures = (n : ℕ) (ps qs : List Attested) → n ≤ 16 → Enough
 -- what each reason says of the epoch's set and the certificate
 abbrev pub Against : Option EpochSet → (ℕ → Bytes → Bool) → Bytes → Rejection → Type 0
 Against None ok c r = r ≡ UnknownEpoch
-Against (Some s) ok c r = withMap (r ≡ NoMap) (λ m body. Says s.n (standing m) (fits (standing m) body) (each_accepted ok (standing m) body) r) c
+Against (Some s) ok c r = with_map (r ≡ NoMap) (λ m body. Says s.n (standing m) (fits (standing m) body) (each_accepted ok (standing m) body) r) c
 
 -- a certificate is rejected exactly where there is a reason, and the reason holds
 abbrev pub Reasons : Type 0

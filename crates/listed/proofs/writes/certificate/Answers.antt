@@ -6,8 +6,8 @@ use Rattle.listed.proofs.writes.certificate.Goals as goal
 pub write-requires : goal.write-requires
 write-requires c = (refl, (mapped c.args.n _ c.args.attestations.now c.in-Some.ensures).few)
 
-pub invariant-of-result : goal.invariant-of-result
-invariant-of-result c = let m = mapped c.args.n _ c.args.attestations.now c.in-Some.ensures in (omega (arith, m.few), tt)
+pub invariant_of-result : goal.invariant_of-result
+invariant_of-result c = let m = mapped c.args.n _ c.args.attestations.now c.in-Some.ensures in record { within = omega (arith, m.few) }
 
 pub returns-in-Some : goal.returns-in-Some
 returns-in-Some c = assembled_yes c.args.n _ c.args.attestations.now _ (mapped c.args.n _ c.args.attestations.now c.in-Some.ensures) c.write.ensures

@@ -1,9 +1,9 @@
-use Rattle.std.proofs.Common.{◌∙◌, arith, rules}
+use Rattle.std.proofs.Common.{arith, rules}
 use Rattle.listed.proofs.Writing.{written_none, written-more, written_all}
 use Rattle.listed.proofs.writes.write.Goals as goal
 
 pub loop-i-init : goal.loop-i-init
-loop-i-init c = written_none c.args.signers c.to-be-bytes.result c.args.bytes.now c.place.new.bytes c.to-be-bytes.ensures c.requires.0 c.place.ensures
+loop-i-init c = written_none c.args.signers c.to_be_bytes.result c.args.bytes.now c.place.new.bytes c.to_be_bytes.ensures c.requires.0 c.place.ensures
 
 pub loop-i-preserved : goal.loop-i-preserved
 loop-i-preserved c =
