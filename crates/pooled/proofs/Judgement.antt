@@ -1,5 +1,5 @@
 -- A pooled certificate is accepted where there is no reason against it, and a reason against it holds. Assumes nothing.
-use Rattle.std.proofs.Common.{◌≡◌, ℕ, ◌+◌, ◌*◌, Bool, not, List, [], ◌∷◌, is_some, Some, None, Option, sym, refl}
+use Rattle.std.proofs.Common.{◌≡◌, ℕ, ◌+◌, ◌*◌, not, [], ◌∷◌, is_some, Some, None, Option, sym, refl}
 use Rattle.bitmaps.proofs.Judged as both
 use Rattle.bitmaps.proofs.Judged.{inner, says}
 use Rattle.bitmaps.specs.declared.rejection.Rejection.{Rejection}

@@ -1,5 +1,5 @@
 -- A pooled certificate, part by part. Assumes nothing.
-use Rattle.std.proofs.Common.{◌≡◌, ℕ, ◌+◌, ◌%◌, ◌^◌, ◌&&◌, leb, List, ◌++◌, map, length, take, Some, None, Option, sym, refl, ap, ◌∙◌, arith}
+use Rattle.std.proofs.Common.{◌≡◌, ℕ, ◌+◌, ◌%◌, ◌^◌, ◌&&◌, leb, List, ◌++◌, map, length, take, Some, None, sym, refl, ap, ◌∙◌, arith}
 use Rattle.std.proofs.lemmas.Bool.{cond-true, cond-false}
 use Rattle.bitmaps.proofs.Mapped.{Mapped, unmapped}
 use Rattle.bitmaps.proofs.Placed.{placed-front}

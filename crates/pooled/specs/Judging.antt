@@ -2,7 +2,7 @@
 use Rattle.std.specs.Prelude.{ℕ, ◌+◌, ◌%◌, ◌^◌, Bool, false, List, [], ◌∷◌, length, Some, None, Option, ◌==◌}
 use Rattle.std.specs.Str.{bytes_eq}
 use Rattle.bitmaps.specs.Maps.{standing}
-use Rattle.bitmaps.specs.Verdicts.{withMap, passes, verdict}
+use Rattle.bitmaps.specs.Verdicts.{with_map, passes, verdict}
 use Rattle.bitmaps.specs.declared.rejection.Rejection.{Rejection}
 use Rattle.bitmaps.specs.declared.rejection.Rejection.TheVariants.{UnknownEpoch, NoMap}
 use Rattle.provider.specs.Answers.{Bytes}
@@ -28,7 +28,7 @@ abbrev pub accepted_body : ℕ → ℕ → Bytes → List ℕ → Bytes → Bool
 accepted_body n h d is body = passes n is (fits body) (summed h d is body)
 
 abbrev pub valid_for : ℕ → ℕ → Bytes → Bytes → Bool
-valid_for n h d c = withMap false (λ m body. accepted_body n h d (standing m) body) c
+valid_for n h d c = with_map false (λ m body. accepted_body n h d (standing m) body) c
 
 -- and the epoch is known
 abbrev pub valid_in : Option EpochSet → ℕ → Bytes → Bytes → Bool
@@ -40,7 +40,7 @@ abbrev pub reject_body : ℕ → ℕ → Bytes → List ℕ → Bytes → Option
 reject_body n h d is body = verdict n is (fits body) (summed h d is body)
 
 abbrev pub reject_for : ℕ → ℕ → Bytes → Bytes → Option Rejection
-reject_for n h d c = withMap (Some NoMap) (λ m body. reject_body n h d (standing m) body) c
+reject_for n h d c = with_map (Some NoMap) (λ m body. reject_body n h d (standing m) body) c
 
 -- the first reason against a certificate, if there is one
 abbrev pub reject_in : Option EpochSet → ℕ → Bytes → Bytes → Option Rejection

@@ -1,7 +1,8 @@
 -- The pooled provider keeps the laws of every provider: the proof that its trait asks for. Assumes nothing.
-use Rattle.std.specs.Prelude.{◌≡◌, ℕ, ◌+◌, ◌*◌, ◌/◌, ◌%◌, ◌^◌, ◌<◌, ◌≤◌, Bool, true, false, cond, ◌&&◌, List, [], ◌∷◌, ◌++◌, length, Some, None, All, Option, nat_eq, nat_le, nat_lt, refl}
+use Rattle.std.specs.Prelude.{◌≡◌, ℕ, ◌+◌, ◌*◌, ◌/◌, ◌%◌, ◌^◌, ◌≤◌, true, ◌&&◌, List, [], ◌∷◌, length, Some, None, All, Option, nat_eq, nat_le, nat_lt, refl}
 use Rattle.std.proofs.Common.{sym, ap, subst, ◌∙◌, arith}
 use Rattle.std.proofs.Math.Nat.{add-mod, mod-mod}
+use Rattle.std.proofs.lemmas.List.Elements.{All-nil, All-cons, All-head, All-tail}
 use Rattle.std.proofs.lemmas.Slice.Eq.{bytes_eq-Decides}
 use Rattle.std.proofs.lemmas.Bool.{and_parts, and_from, eqb-true, le-leb, leb-true, cond-true, false≢true}
 use Rattle.std.specs.Str.{bytes_eq}
@@ -11,7 +12,7 @@ use Rattle.bitmaps.proofs.Mapped.{made}
 use Rattle.bitmaps.proofs.Returns.{returned, sixteen, two_back}
 use Rattle.bitmaps.specs.Maps.{all_below, enough, map_of, rising, standing}
 use Rattle.provider.specs.Answers.{Attested, Bytes}
-use Rattle.provider.specs.Laws.{Enough, Lawful, Sound, signers_of}
+use Rattle.provider.specs.Laws.{Enough, Lawful, signers_of}
 use Rattle.tags.proofs.Words.{word-eight_bytes}
 use Rattle.tags.specs.Tags.{signature_of, tag_of}
 use Rattle.tags.specs.Words.{eight_bytes, word}
@@ -24,7 +25,7 @@ use Rattle.trial.specs.Fits.{Fit}
 use Rattle.trial.specs.Sets.{keys_in, set_at}
 use Rattle.trial.specs.Sizes.{sized_sets}
 use Rattle.trial.specs.Trials.{keys_among, own_among, accepted_among, tagged}
-use Rattle.pooled.specs.Certificates.{carried, certificate_of, assemble_for, assemble_in}
+use Rattle.pooled.specs.Certificates.{carried, certificate_of, assemble_in}
 use Rattle.pooled.specs.Judging.{tag_sum, fits, summed, accepted_body, valid_for, valid_in}
 use Rattle.pooled.specs.Pooling.{pooled}
 
@@ -41,19 +42,24 @@ abbrev pub Carry : ℕ → Bytes → List Attested → Type 0
 Carry h d qs = All (λ (q : Attested). word q.signature ≡ tag_of q.signer h d % 2 ^ 64) qs
 
 pub carry_own : (h : ℕ) (d : Bytes) (qs : List Attested) → All (λ (q : Attested). q.signature ≡ tagged q.signer h d) qs → Carry h d qs
-carry_own h d [] own = tt
-carry_own h d (q ∷ qs) own = (ap word own.0 ∙ carries q.signer h d, carry_own h d qs own.1)
+carry_own h d [] own = All-nil (λ (q : Attested). word q.signature ≡ tag_of q.signer h d % 2 ^ 64)
+carry_own h d (q ∷ qs) own =
+    All-cons (λ (p : Attested). word p.signature ≡ tag_of p.signer h d % 2 ^ 64) q qs
+    (ap word (All-head (λ (p : Attested). p.signature ≡ tagged p.signer h d) q qs own) ∙ carries q.signer h d)
+    (carry_own h d qs (All-tail (λ (p : Attested). p.signature ≡ tagged p.signer h d) q qs own))
 
 -- signatures that carry their tags have the sum of the tags, as 64 bits
 same_sum : (h : ℕ) (d : Bytes) (qs : List Attested) → Carry h d qs → carried qs % 2 ^ 64 ≡ tag_sum h d (signers_of qs) % 2 ^ 64
 same_sum h d [] each = refl
 same_sum h d (q ∷ qs) each =
+    let here = All-head (λ (p : Attested). word p.signature ≡ tag_of p.signer h d % 2 ^ 64) q qs each in
+    let later = All-tail (λ (p : Attested). word p.signature ≡ tag_of p.signer h d % 2 ^ 64) q qs each in
     let t = tag_of q.signer h d in
     let rest = tag_sum h d (signers_of qs) in
-    let one : word q.signature % 2 ^ 64 ≡ t % 2 ^ 64 = ap (λ (n : ℕ). n % 2 ^ 64) each.0 ∙ mod-mod t (2 ^ 64) in
+    let one : word q.signature % 2 ^ 64 ≡ t % 2 ^ 64 = ap (λ (n : ℕ). n % 2 ^ 64) here ∙ mod-mod t (2 ^ 64) in
     add-mod (word q.signature) (carried qs) (2 ^ 64)
     ∙ ap (λ (n : ℕ). (n + carried qs % 2 ^ 64) % 2 ^ 64) one
-    ∙ ap (λ (n : ℕ). (t % 2 ^ 64 + n) % 2 ^ 64) (same_sum h d qs each.1)
+    ∙ ap (λ (n : ℕ). (t % 2 ^ 64 + n) % 2 ^ 64) (same_sum h d qs later)
     ∙ sym (add-mod t rest (2 ^ 64))
 
 pub accepted_for : (n h : ℕ) (d : Bytes) (qs : List Attested) → n ≤ 16 → enough n (signers_of qs) ≡ true → Carry h d qs → valid_for n h d (certificate_of qs) ≡ true
@@ -97,11 +103,14 @@ no_other_in (Some s) fit qs c e =
 
 -- accepted signatures carry their tags
 carry_all : (o : Option EpochSet) (h : ℕ) (d : Bytes) (qs : List Attested) → All (λ (q : Attested). accepted_among o q.signer h d q.signature ≡ true) qs → Carry h d qs
-carry_all o h d [] good = tt
-carry_all None h d (q ∷ qs) good = absurd (false≢true good.0)
+carry_all o h d [] good = All-nil (λ (q : Attested). word q.signature ≡ tag_of q.signer h d % 2 ^ 64)
+carry_all None h d (q ∷ qs) good = absurd (false≢true (All-head (λ (p : Attested). accepted_among None p.signer h d p.signature ≡ true) q qs good))
 carry_all (Some s) h d (q ∷ qs) good =
-    let both = and_parts (nat_lt q.signer s.n) (bytes_eq (tagged q.signer h d) q.signature) good.0 in
-    (ap word (sym ((bytes_eq-Decides (tagged q.signer h d) q.signature).0 both.1)) ∙ carries q.signer h d, carry_all (Some s) h d qs good.1)
+    let here = All-head (λ (p : Attested). accepted_among (Some s) p.signer h d p.signature ≡ true) q qs good in
+    let both = and_parts (nat_lt q.signer s.n) (bytes_eq (tagged q.signer h d) q.signature) here in
+    All-cons (λ (p : Attested). word p.signature ≡ tag_of p.signer h d % 2 ^ 64) q qs
+    (ap word (sym ((bytes_eq-Decides (tagged q.signer h d) q.signature).0 both.1)) ∙ carries q.signer h d)
+    (carry_all (Some s) h d qs (All-tail (λ (p : Attested). accepted_among (Some s) p.signer h d p.signature ≡ true) q qs good))
 
 accepted_in : (o : Option EpochSet) (h : ℕ) (d : Bytes) (qs : List Attested) (c : Bytes) → assemble_in o qs ≡ Some c
     → All (λ (q : Attested). accepted_among o q.signer h d q.signature ≡ true) qs → valid_in o h d c ≡ true

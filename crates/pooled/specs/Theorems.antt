@@ -1,7 +1,7 @@
 -- What pooled certificates show. Assumes nothing.
 use Rattle.std.specs.Prelude.{◌≡◌, ℕ, ◌≤◌, true, not, List, is_some, Some, None, All, Option}
 use Rattle.bitmaps.specs.Maps.{standing}
-use Rattle.bitmaps.specs.Verdicts.{withMap, Says}
+use Rattle.bitmaps.specs.Verdicts.{with_map, Says}
 use Rattle.bitmaps.specs.declared.rejection.Rejection.{Rejection}
 use Rattle.bitmaps.specs.declared.rejection.Rejection.TheVariants.{UnknownEpoch, NoMap}
 use Rattle.provider.specs.Answers.{Attested, Bytes}
@@ -19,7 +19,7 @@ AssembledIsAccepted = (n h : ℕ) (d : Bytes) (qs : List Attested) → n ≤ 16 
 -- what each reason says of the epoch's set and the certificate
 abbrev pub Against : Option EpochSet → ℕ → Bytes → Bytes → Rejection → Type 0
 Against None h d c r = r ≡ UnknownEpoch
-Against (Some s) h d c r = withMap (r ≡ NoMap) (λ m body. Says s.n (standing m) (fits body) (summed h d (standing m) body) r) c
+Against (Some s) h d c r = with_map (r ≡ NoMap) (λ m body. Says s.n (standing m) (fits body) (summed h d (standing m) body) r) c
 
 -- a certificate is rejected exactly where there is a reason, and the reason holds
 abbrev pub Reasons : Type 0

@@ -3,7 +3,7 @@ ghost use Rattle.std.specs.Prelude.{◌≡◌, ◌%◌, ◌^◌, map};
 ghost use Rattle.std.specs.Str.{bytes_eq};
 ghost use Rattle.provider.specs.Values.{attested};
 ghost use Rattle.tags.specs.Words.{eight_bytes};
-ghost use Rattle.pooled.specs.Certificates.{carried as carriedBy};
+ghost use Rattle.pooled.specs.Certificates.{carried as carried_by};
 ghost use Rattle.pooled.specs.Judging.{tag_sum};
 
 use provider::Attestation;
@@ -11,7 +11,7 @@ use types::Height;
 
 /// The sum of the tags that the signatures carry.
 pub(crate) fn carried(attestations: &[Attestation]) -> u64
-    ensures { result ≡ carriedBy (map attested attestations.now) % 2 ^ 64 }
+    ensures { result ≡ carried_by (map attested attestations.now) % 2 ^ 64 }
 {
     let mut sum = 0u64;
     for attestation in attestations {

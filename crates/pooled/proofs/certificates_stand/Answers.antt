@@ -1,4 +1,3 @@
-use Rattle.std.proofs.Common.{ap, ◌∙◌}
 use Rattle.bitmaps.proofs.Enoughs.{tells-enough}
 use Rattle.provider.specs.Laws.{signers_of}
 use Rattle.pooled.specs.Keeping.{accepted_for, carry_own}

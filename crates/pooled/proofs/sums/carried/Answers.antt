@@ -14,8 +14,8 @@ loop-attestation-preserved c =
     let qs = c.args.attestations.now in
     let i = c.loop-attestation.attestation-index in
     let rest : ℕ = total (drop (i + 1) qs) in
-    let split = at_drop_more total qs i _ c.loop-attestation-test.true ∙ ap (λ (x : ℕ). x + rest) (sym c.first-word-sum.ensures) in
-    (wrapped_more total qs i c.first-word-sum.result c.loop-attestation.sum _ split c.loop-attestation.invariant.0, wrapped_small _)
+    let split = at_drop_more total qs i _ c.loop-attestation-test.true ∙ ap (λ (x : ℕ). x + rest) (sym c.first_word-sum.ensures) in
+    (wrapped_more total qs i c.first_word-sum.result c.loop-attestation.sum _ split c.loop-attestation.invariant.0, wrapped_small _)
 
 pub returns : goal.returns
 returns c =

@@ -1,4 +1,4 @@
-use Rattle.std.proofs.Common.{ℕ, List, ap, ◌∙◌}
+use Rattle.std.proofs.Common.{ap, ◌∙◌}
 use Rattle.std.proofs.lemmas.Slice.Eq.{slice_eq-Decides, bytes_eq-Decides}
 use Rattle.std.proofs.lemmas.Bool.Decides.{same_from_decides, Decides-eqb}
 use Rattle.std.specs.Str.{bytes_eq}
@@ -9,6 +9,6 @@ pub returns : goal.returns
 unfolding eight_bytes
 returns c =
     let given = c.args.body.now in
-    let own = c.to-be-bytes-bytes.result in
+    let own = c.to_be_bytes-bytes.result in
     same_from_decides c.eq.result (bytes_eq given own) (slice_eq-Decides Decides-eqb given own c.eq.result c.eq.ensures) (bytes_eq-Decides given own)
-    ∙ ap (bytes_eq given) c.to-be-bytes-bytes.ensures
+    ∙ ap (bytes_eq given) c.to_be_bytes-bytes.ensures

@@ -4,5 +4,5 @@ use Rattle.pooled.proofs.answers.PooledProviderProvider.valid.Goals as goal
 
 pub returns : goal.returns
 returns c =
-    accepted-without c.reject.result _ c.is-none.result _ c.reject.ensures c.is-none.ensures
+    accepted-without c.reject.result _ c.is_none.result _ c.reject.ensures c.is_none.ensures
     (judged _ c.args.height.0 c.args.digest.now c.args.certificate.now)
