@@ -1,5 +1,7 @@
 -- The run in which a certificate is told on both sides of a power cut. Assumes nothing.
 use Rattle.std.proofs.Common.{◌≡◌, ℕ, ◌<◌, Bool, true, false, cond, ◌&&◌, eqb, ltb, List, [], ◌∷◌, map, get_or, take, Some, None, All, sym, refl, ap, subst, inl, inr, arith}
+use Rattle.std.specs.List.{AllByRecursion}
+use Rattle.std.proofs.lemmas.List.Elements.{All-nil, All-cons}
 use mathlib.Core.List.Memᴰ
 use mathlib.Core.List.{Memᴰ}
 use Rattle.forms.specs.Uint.{spell_by, spell, groups}
@@ -39,8 +41,8 @@ are_bytes [] = true
 are_bytes (b ∷ bs) = ltb b 256 && are_bytes bs
 
 small : (bs : List ℕ) → are_bytes bs ≡ true → All (λ b. b < 256) bs
-small [] e = tt
-small (b ∷ bs) e = let q = and_parts (ltb b 256) (are_bytes bs) e in (ltb-true b 256 q.0, small bs q.1)
+small [] e = All-nil (λ b. b < 256)
+small (b ∷ bs) e = let q = and_parts (ltb b 256) (are_bytes bs) e in All-cons (λ b. b < 256) b bs (ltb-true b 256 q.0) (small bs q.1)
 
 abbrev room : Space
 room s n = true
@@ -109,8 +111,8 @@ own-sent : Happened (send 0 (ack_by 0)) deeds
 unfolding spell_by spell groups write_ack write write_message record_at message_at empty all_of firm firm_to added from appended synced all_synced synced_to pruned numbered reading turned tag_of signature_of word eight_bytes
 own-sent = Memᴰ.tail (Memᴰ.tail (Memᴰ.tail (Memᴰ.tail (Memᴰ.tail (Memᴰ.tail (Memᴰ.head refl))))))
 
-all-mem : {X : Type 0} (P : X → Type 0) (xs : List X) (x : X) → All P xs → Memᴰ x xs → P x
-all-mem P [] x l m = absurd (Memᴰ.not_nil m)
+all-mem : {X : Type 0} (P : X → Type 0) (xs : List X) (x : X) → AllByRecursion P xs → Memᴰ x xs → P x
+all-mem P [] x l m = absurd (Memᴰ.not-nil m)
 all-mem P (y ∷ ys) x (k, l) (Memᴰ.head e) = subst P (sym e) k
 all-mem P (y ∷ ys) x (k, l) (Memᴰ.tail m) = all-mem P ys x l m
 
@@ -131,16 +133,16 @@ abbrev Plainly : Deed → Type 0
 Plainly (called r e a done) = Plain e
 Plainly cut = Unit {0}
 
-accepted_zero : (past : List Deed) → All Plainly past → (f : ℕ) → Accepted f past → f ≡ 0
+accepted_zero : (past : List Deed) → AllByRecursion Plainly past → (f : ℕ) → Accepted f past → f ≡ 0
 accepted_zero past l f (inl (now, room, (done, m))) = all-mem Plainly past _ l m
 accepted_zero past l f (inr (now, (done, m))) = all-mem Plainly past _ l m
 
-rises : (past : List Deed) → All Plainly past → Rising past
+rises : (past : List Deed) → AllByRecursion Plainly past → Rising past
 rises [] l = tt
 rises (cut ∷ past) (k, l) = rises past l
 rises (called r x a done ∷ past) (k, l) = (λ e now room q o f m. omega (arith, accepted_zero past l f m), rises past l)
 
-none_own : (past : List Deed) → All Plainly past → NoneUnderOwnKey provider past
+none_own : (past : List Deed) → AllByRecursion Plainly past → NoneUnderOwnKey provider past
 none_own past l k b room r a done m = all-mem Plainly past _ l m
 
 own_in : (b : Bool) (i : ℕ) (ks : List Bytes) (k : Bytes) → own_among (cond b (Some signers) None) ≡ Some i → keys_among (cond b (Some signers) None) ≡ Some ks → get_or ks i [] ≡ k → k ≡ key 0
@@ -159,7 +161,7 @@ other i l o = let z : i ≡ 0 = ap (λ (k : Bytes). get_or k 0 0) (own-key_is (k
 abbrev all_deeds : List Deed
 all_deeds = called whole opened ok told-after ∷ called off (heard_from 2) power_off cut_short ∷ deeds
 
-plainly : All Plainly all_deeds
+plainly : AllByRecursion Plainly all_deeds
 plainly = (refl, (other 2 (omega arith), (other 1 (omega arith), (tt, (tt, (refl, tt))))))
 
 pub again : ToldAgain provider settings
