@@ -1,7 +1,7 @@
 //! Writing: each form into a lent buffer, from its first byte on; a buffer that is too short stays as it was.
 ghost use Rattle.std.specs.Prelude.{◌≡◌, ℕ, ◌+◌, ◌<◌, ◌≤◌, length};
 ghost use Rattle.forms.specs.Uint.{spell};
-ghost use Rattle.forms.specs.Values.{ack, certified, tip as tipValue};
+ghost use Rattle.forms.specs.Values.{ack, certified, tip as tip_value};
 ghost use Rattle.forms.specs.Writing.{write, write_ack, write_message, fitted, laid, put};
 ghost use Rattle.forms.specs.Typed.{ack_of, cert_of, message_of, AckLen, CertifiedLen, MessageLen};
 
@@ -85,7 +85,7 @@ pub fn certified_len(height: Height, certificate: &[u8]) -> usize
 
 /// How many bytes the record of a tip takes.
 pub fn tip_len(tip: Height) -> usize
-    ensures { result ≡ length (write (tipValue tip.0)) }
+    ensures { result ≡ length (write (tip_value tip.0)) }
 {
     1 + uint_len(tip.0)
 }
@@ -140,8 +140,8 @@ pub fn write_certified(
 
 /// Writes the record of a tip, and answers how many bytes it took.
 pub fn write_tip(out: &mut [u8], tip: Height) -> Result<usize, Short>
-    ensures answer { result ≡ fitted (write (tipValue tip.0)) out.old }
-    ensures after { out.new ≡ laid (write (tipValue tip.0)) out.old }
+    ensures answer { result ≡ fitted (write (tip_value tip.0)) out.old }
+    ensures after { out.new ≡ laid (write (tip_value tip.0)) out.old }
 {
     if tip_len(tip) > out.len() {
         return Err(Short);

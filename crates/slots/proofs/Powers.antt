@@ -45,11 +45,11 @@ unders-front s zero xs = omega arith
 unders-front s (suc i) [] = omega arith
 unders-front s (suc i) (x ∷ xs) = omega (arith, unders-front s i xs)
 
-get_d_swept : (s i : ℕ) (xs : List Slot) → i < length xs → get_or (swept s i xs) i blank ≡ get_or xs i blank
+get_or-swept : (s i : ℕ) (xs : List Slot) → i < length xs → get_or (swept s i xs) i blank ≡ get_or xs i blank
 unfolding swept
-get_d_swept s i [] h = absurd (omega (arith, h))
-get_d_swept s zero (x ∷ xs) h = refl
-get_d_swept s (suc i) (x ∷ xs) h = get_d_swept s i xs (omega (arith, h))
+get_or-swept s i [] h = absurd (omega (arith, h))
+get_or-swept s zero (x ∷ xs) h = refl
+get_or-swept s (suc i) (x ∷ xs) h = get_or-swept s i xs (omega (arith, h))
 
 -- the first i slots have been gone through, and the power lasted
 pub record Swept (s i : ℕ) (p : Option ℕ) (xs ys : List Slot) (q : Option ℕ) : Type 0 where
@@ -68,7 +68,7 @@ module _ (s i : ℕ) (p : Option ℕ) (xs ys : List Slot) (q : Option ℕ) (w : 
 
   same : cond (under s (get_or ys i blank)) 1 0 ≡ tick
   unfolding tick
-  same = ap (λ (x : Slot). cond (under s x) 1 0) (ap (λ (l : List Slot). get_or l i blank) w.slots ∙ get_d_swept s i xs h)
+  same = ap (λ (x : Slot). cond (under s x) 1 0) (ap (λ (l : List Slot). get_or l i blank) w.slots ∙ get_or-swept s i xs h)
 
   next : unders s (take (i + 1) xs) ≡ unders s (take i xs) + tick
   unfolding tick

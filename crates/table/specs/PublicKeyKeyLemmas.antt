@@ -1,3 +1,4 @@
+-- A key from its bytes: the last step of the proof that the order of keys is total. Assumes nothing.
 use Rattle.std.specs.Prelude.{ℕ, List}
 use Rattle.types.specs.declared.bytes.PublicKey.{PublicKey}
 
