@@ -16,10 +16,6 @@ pub made : {A : Type 0} (b : Bool) (x y : A) → cond b (Some x) None ≡ Some y
 made true x y e = (refl, cc)
 made false x y e = absurd (some_none y (sym e))
 
-pub unmade : {A : Type 0} (b : Bool) (x : A) → cond b (Some x) None ≡ None → b ≡ false
-unmade true x e = absurd (some_none x e)
-unmade false x e = refl
-
 pub record Mapped (n m : ℕ) (qs : List Attestation) : Type 0 where
   pub good : (leb n 16 && enough n (signers_in qs)) ≡ true
   pub few : length qs ≤ 16
@@ -36,6 +32,3 @@ mapped n m qs e =
       few = omega (arith, room 0 n (signers_in qs) (omega arith) more.1, signers_length qs);
       is = by.1;
     }
-
-pub unmapped : (n : ℕ) (qs : List Attestation) → None ≡ map_for n (signers_in qs) → (leb n 16 && enough n (signers_in qs)) ≡ false
-unmapped n qs e = unmade (leb n 16 && enough n (signers_in qs)) (map_of (signers_in qs)) (sym e)

@@ -1,4 +1,3 @@
 pub mod Determined
-pub mod Judgement
 pub mod Reading
 pub mod Writing

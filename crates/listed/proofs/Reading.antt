@@ -1,6 +1,6 @@
 -- A certificate's signatures, one signer at a time. Assumes nothing.
 use Rattle.std.proofs.Common.{◌≡◌, ℕ, ◌+◌, ◌-◌, ◌*◌, ◌<◌, ◌≤◌, Bool, true, false, ◌&&◌, List, length, get_or, take, drop, Some, Option, sym, ap, ◌∙◌, arith}
-use Rattle.std.proofs.lemmas.List.{at_drop_more, at_drop_all, drop-drop}
+use Rattle.std.proofs.lemmas.List.{at_drop_more, drop-drop}
 use Rattle.std.proofs.lemmas.Bool.{and_left}
 use Rattle.bitmaps.proofs.Judged.{two_and_rest}
 use Rattle.bitmaps.specs.Maps.{standing}
@@ -23,9 +23,6 @@ module _ (ok : ℕ → Bytes → Bool) (is : List ℕ) (body : Bytes) (i : ℕ) 
   pub each_stop : (w : Bool) → ok (get_or is i 0) (take (64 * i + 64 - 64 * i) (drop (64 * i) body)) ≡ false → each_accepted ok (drop i is) (drop (64 * i) body) ≡ w → false ≡ w
   each_stop w here whole =
       sym (split ∙ and_left (ok (get_or is i 0) (take (64 * i + 64 - 64 * i) (drop (64 * i) body))) (each_accepted ok (drop (i + 1) is) (drop (64 * (i + 1)) body)) here) ∙ whole
-
-pub each_all : (ok : ℕ → Bytes → Bool) (is : List ℕ) (body : Bytes) (i : ℕ) (w : Bool) → length is ≤ i → each_accepted ok (drop i is) (drop (64 * i) body) ≡ w → true ≡ w
-each_all ok is body i w past whole = sym (at_drop_all (λ (js : List ℕ). each_accepted ok js (drop (64 * i) body)) is i past) ∙ whole
 
 -- the reason against a certificate, by its map and what follows it
 pub read_apart : (o : Option EpochSet) (s : EpochSet) (ok : ℕ → Bytes → Bool) (c : Bytes) (is : List ℕ) → Some s ≡ o → 2 ≤ length c → is ≡ standing (get_or c 0 0 * 256 + get_or c 1 0)

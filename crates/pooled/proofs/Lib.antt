@@ -1,4 +1,1 @@
-pub mod Judgement
-pub mod Reading
-pub mod Wrapping
 pub mod Writing

@@ -1,16 +1,10 @@
 -- A pooled certificate, part by part. Assumes nothing.
-use Rattle.std.proofs.Common.{◌≡◌, ℕ, ◌+◌, ◌%◌, ◌^◌, ◌&&◌, leb, List, ◌++◌, map, length, take, Some, None, sym, refl, ap, ◌∙◌, arith}
-use Rattle.std.proofs.lemmas.Bool.{cond-true, cond-false}
-use Rattle.bitmaps.proofs.Mapped.{Mapped, unmapped}
+use Rattle.std.proofs.Common.{◌≡◌, ℕ, ◌+◌, ◌++◌, length, take, refl, ap, ◌∙◌, arith}
 use Rattle.bitmaps.proofs.Placed.{placed-front}
-use Rattle.bitmaps.specs.Attested.{signers_in}
-use Rattle.bitmaps.specs.Maps.{enough, map_for, map_of, two_bytes}
+use Rattle.bitmaps.specs.Maps.{two_bytes}
 use Rattle.bitmaps.specs.Parts.{placed_at}
 use Rattle.provider.specs.Answers.{Bytes}
-use Rattle.provider.specs.declared.attestation.Attestation.{Attestation}
-use Rattle.provider.specs.Values.{attested}
 use Rattle.tags.specs.Words.{eight_bytes}
-use Rattle.pooled.specs.Certificates.{carried, certificate_of, assemble_for}
 
 pub eight : (n : ℕ) → length (eight_bytes n) ≡ 8
 unfolding eight_bytes
@@ -29,12 +23,3 @@ written m sum two eights before middle after is-two is-eight room still first se
     ∙ placed-front 2 eights middle (omega arith)
     ∙ ap (λ (b : Bytes). b ++ eights) front
     ∙ ap (λ (b : Bytes). two_bytes m ++ b) is-eight
-
-pub assembled_yes : (n m sum : ℕ) (qs : List Attestation) (c : Bytes) → Mapped n m qs → sum ≡ carried (map attested qs) % 2 ^ 64 → c ≡ two_bytes m ++ eight_bytes sum
-    → Some c ≡ assemble_for n (map attested qs)
-assembled_yes n m sum qs c by total e =
-    ap (λ (b : Bytes). Some b) (e ∙ ap (λ (k : ℕ). two_bytes k ++ eight_bytes sum) (sym by.is) ∙ ap (λ (k : ℕ). two_bytes (map_of (signers_in qs)) ++ eight_bytes k) total)
-    ∙ sym (cond-true (leb n 16 && enough n (signers_in qs)) (Some (certificate_of (map attested qs))) None by.good)
-
-pub assembled_no : (n : ℕ) (qs : List Attestation) → None ≡ map_for n (signers_in qs) → None ≡ assemble_for n (map attested qs)
-assembled_no n qs e = sym (cond-false (leb n 16 && enough n (signers_in qs)) (Some (certificate_of (map attested qs))) None (unmapped n qs e))

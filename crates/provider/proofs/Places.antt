@@ -1,13 +1,12 @@
 -- A table of keys in ascending order has a key where it first stands among them. Assumes nothing.
-use Rattle.std.proofs.Common.{◌≡◌, ℕ, ◌+◌, ◌-◌, ◌<◌, Bool, true, false, cond, List, [], ◌∷◌, ◌++◌, length, get_or, take, set, Some, None, Option, sym, refl, ap, ◌∙◌, subst, ⊎_elim, arith}
-use Rattle.std.proofs.lemmas.List.{take_more, take_more_set, map_push}
+use Rattle.std.proofs.Common.{◌≡◌, ℕ, ◌-◌, Bool, true, false, cond, List, [], ◌∷◌, length, take, Some, None, Option, sym, refl, ap, ◌∙◌, subst, ⊎_elim, arith}
 use Rattle.std.proofs.lemmas.Bool.{cases_Bool, cond-true, cond-false, both_ways}
 use Rattle.std.proofs.lemmas.Slice.Eq.{bytes_eq-Decides}
 use Rattle.std.specs.Str.{bytes_eq}
 use Rattle.types.specs.declared.bytes.PublicKey.{PublicKey}
 use Rattle.table.specs.declared.Entry.{Entry}
 use Rattle.table.specs.Keys.{lower}
-use Rattle.table.specs.Rows.{entry, place, onward}
+use Rattle.table.specs.Rows.{place, onward}
 use Rattle.table.specs.Bytewise.{lower_total}
 use Rattle.provider.specs.Answers.{Bytes}
 use Rattle.provider.specs.Laws.{Ascending, position}
@@ -67,15 +66,6 @@ placed k (e ∷ es) up =
     cond-false (lower k.bytes x) None (Some 0) below ∙ sym (cond-true (bytes_eq k.bytes x) (Some 0) (onward ahead) same))
     (cases_Bool (lower k.bytes x)))
     (cases_Bool (lower x k.bytes))
-
--- one key more in the table
-pub entered : (ks : List PublicKey) (rows : List (Entry PublicKey ℕ)) (i : ℕ) (d : PublicKey) (v : ℕ) → i < length ks → i < length rows
-    → row_keys (take i rows) ≡ take i ks → row_keys (take (i + 1) (set rows i (entry (get_or ks i d) v))) ≡ take (i + 1) ks
-entered ks rows i d v in-keys in_rows so_far =
-    ap row_keys (take_more_set rows i (entry (get_or ks i d) v) in_rows)
-    ∙ map_push (λ (r : Entry PublicKey ℕ). r.key) (take i rows) (entry (get_or ks i d) v)
-    ∙ ap (λ (front : List PublicKey). front ++ (get_or ks i d ∷ [])) so_far
-    ∙ sym (take_more ks i d in-keys)
 
 -- what the table of the keys answers is the position
 pub found : (k : PublicKey) (ks : List PublicKey) (rows : List (Entry PublicKey ℕ)) (o : Option ℕ) → row_keys (take (length ks) rows) ≡ ks

@@ -1,4 +1,3 @@
 pub mod Checked
 pub mod Kept
-pub mod Keys
 pub mod Sets

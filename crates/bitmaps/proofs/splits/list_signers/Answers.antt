@@ -30,8 +30,5 @@ loop-i-preserved c =
       )
     ]
 
-pub returns : goal.returns
-returns c = record {
-  within = omega (arith, c.loop-i.invariant.0);
-  listed = listed-all c.args.map c.loop-i.i c.loop-i.len c.loop-i.list _ c.loop-i-test.false c.loop-i.invariant.1;
-}
+pub returns-clause-listed : goal.returns-clause-listed
+returns-clause-listed c = listed-all c.args.map c.loop-i.i c.loop-i.len c.loop-i.list _ c.loop-i-test.false c.loop-i.invariant.1

@@ -1,6 +1,5 @@
 use Rattle.std.proofs.Common.{refl, arith}
 use Rattle.bitmaps.proofs.Mapped.{mapped}
-use Rattle.listed.proofs.Writing.{assembled_yes, assembled_no}
 use Rattle.listed.proofs.writes.certificate.Goals as goal
 
 pub write-requires : goal.write-requires
@@ -8,9 +7,3 @@ write-requires c = (refl, (mapped c.args.n _ c.args.attestations.now c.in-Some.e
 
 pub invariant_of-result : goal.invariant_of-result
 invariant_of-result c = let m = mapped c.args.n _ c.args.attestations.now c.in-Some.ensures in record { within = omega (arith, m.few) }
-
-pub returns-in-Some : goal.returns-in-Some
-returns-in-Some c = assembled_yes c.args.n _ c.args.attestations.now _ (mapped c.args.n _ c.args.attestations.now c.in-Some.ensures) c.write.ensures
-
-pub returns-in-None : goal.returns-in-None
-returns-in-None c = assembled_no c.args.n c.args.attestations.now c.in-None.ensures

@@ -1,11 +1,6 @@
 use Rattle.std.proofs.Common.{arith}
-use Rattle.std.proofs.lemmas.List.{length-map}
-use Rattle.types.specs.declared.bytes.PublicKey.{PublicKey}
 use Rattle.provider.proofs.Places.{found}
 use Rattle.provider.proofs.positions.position.Goals as goal
-
-pub returns-then-keys-gt16 : goal.returns-then-keys-gt16
-returns-then-keys-gt16 c = λ known. absurd (omega (arith, known.most, length-map c.args.keys.now (λ (k : PublicKey). k.bytes)))
 
 pub returns-in-Some : goal.returns-in-Some
 returns-in-Some c = λ known.
