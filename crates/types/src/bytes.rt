@@ -1,48 +1,42 @@
 //! Keys, digests and signatures: byte strings of a fixed length.
 ghost use Rattle.std.specs.Prelude.{◌≡◌};
 ghost use Rattle.std.specs.Str.{bytes_eq};
+ghost use Rattle.types.specs.Texts.{of_bytes};
+
+use crate::kinds::{Digests, PublicKeys, Signatures};
+use std::marker::PhantomData;
+
+/// A string of `N` bytes, which is what `K` says.
+#[derive(Clone, Copy, Debug, PartialEq, Eq, PartialOrd, Ord)]
+pub struct Bytes<K, const N: usize> {
+    pub bytes: [u8; N],
+    of: PhantomData<K>,
+}
 
 /// A signer's public key.
-#[derive(Clone, Copy)]
-pub struct PublicKey {
-    pub bytes: [u8; 32],
-}
+pub type PublicKey = Bytes<PublicKeys, 32>;
 
 /// What is signed for a height.
-#[derive(Clone, Copy)]
-pub struct Digest {
-    pub bytes: [u8; 32],
-}
+pub type Digest = Bytes<Digests, 32>;
 
 /// A signature of a height and its digest.
-#[derive(Clone, Copy)]
-pub struct Signature {
-    pub bytes: [u8; 64],
-}
+pub type Signature = Bytes<Signatures, 64>;
 
-impl PublicKey {
-    /// Whether the two keys are one, byte for byte.
-    pub fn same(&self, key: &PublicKey) -> bool
-        ensures { result ≡ bytes_eq self.now.bytes key.now.bytes }
+impl<K, const N: usize> Bytes<K, N> {
+    /// The string of these bytes.
+    pub const fn new(bytes: [u8; N]) -> Self
+        ensures { result ≡ of_bytes bytes.entry }
     {
-        self.bytes == key.bytes
+        Bytes {
+            bytes,
+            of: PhantomData,
+        }
     }
-}
 
-impl Digest {
-    /// Whether the two digests are one, byte for byte.
-    pub fn same(&self, digest: &Digest) -> bool
-        ensures { result ≡ bytes_eq self.now.bytes digest.now.bytes }
+    /// Whether the two are one, byte for byte.
+    pub fn same(&self, other: &Self) -> bool
+        ensures { result ≡ bytes_eq self.now.bytes other.now.bytes }
     {
-        self.bytes == digest.bytes
-    }
-}
-
-impl Signature {
-    /// Whether the two signatures are one, byte for byte.
-    pub fn same(&self, signature: &Signature) -> bool
-        ensures { result ≡ bytes_eq self.now.bytes signature.now.bytes }
-    {
-        self.bytes == signature.bytes
+        self.bytes == other.bytes
     }
 }

@@ -2,11 +2,9 @@
 #![tactic(auto)]
 
 mod bytes;
-mod epochs;
-mod heights;
-mod signers;
+mod kinds;
+mod numbers;
 
-pub use bytes::{Digest, PublicKey, Signature};
-pub use epochs::{Epoch, EpochDelta};
-pub use heights::{Height, HeightDelta};
-pub use signers::Participant;
+pub use bytes::{Bytes, Digest, PublicKey, Signature};
+pub use kinds::{Digests, Epochs, Heights, PublicKeys, Signatures, Signers};
+pub use numbers::{Delta, Epoch, EpochDelta, Height, HeightDelta, Number, Participant};
