@@ -1,7 +1,7 @@
 -- What is printed of a reply and of a summary. Assumes nothing.
 use Rattle.std.specs.Prelude.{ℕ, List, [], ◌++◌, Some, None, codes, decimal, Option}
 use Rattle.console_tips.specs.Printed.{answer_line}
-use Rattle.types.specs.declared.heights.Height.{Height}
+use Rattle.types.specs.Numbers.{Height}
 use Rattle.console.specs.declared.replies.Reply.{Reply}
 use Rattle.console.specs.declared.replies.Reply.TheVariants.{Silent, Tips, Unknown}
 use Rattle.console.specs.declared.replies.Summary.{Summary}

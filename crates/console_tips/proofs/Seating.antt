@@ -13,8 +13,7 @@ use Rattle.tips.specs.Faults.{faults}
 use Rattle.tips.specs.Seats.{tips_of, opened, Ascending}
 use Rattle.tips.specs.Tips.{Holds, counted, highest}
 use Rattle.tips.specs.declared.safe_tip.SafeTip.{SafeTip}
-use Rattle.types.specs.Numbers.{height}
-use Rattle.types.specs.declared.signers.Participant.{Participant}
+use Rattle.types.specs.Numbers.{height, Participant}
 use Rattle.console_tips.specs.declared.boards.Board.{Board}
 use Rattle.console_tips.specs.Boards.{sitting}
 use Rattle.console_tips.proofs.Holding.{holds, length-sitting}

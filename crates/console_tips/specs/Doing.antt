@@ -8,8 +8,7 @@ use Rattle.tip_commands.specs.Sets.{keys_of}
 use Rattle.tips.specs.Faults.{faults, quorum}
 use Rattle.tips.specs.Ranks.{Safe}
 use Rattle.tips.specs.Seats.{opened, reseated, seated_after, lower_than, tips_of}
-use Rattle.types.specs.Numbers.{height}
-use Rattle.types.specs.declared.heights.Height.{Height}
+use Rattle.types.specs.Numbers.{height, Height}
 use Rattle.console_tips.specs.declared.answers.Answer.{Answer}
 use Rattle.console_tips.specs.declared.answers.Answer.TheVariants.{Seated, Counted, NotCounted, Refused}
 use Rattle.console_tips.specs.declared.answers.Refusal.TheVariants.{Words, Size, NoSigners}

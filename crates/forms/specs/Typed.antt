@@ -1,8 +1,6 @@
 -- The values that are written, from the types that hold them. Assumes nothing.
 use Rattle.std.specs.Prelude.{◌≡◌, ℕ, List, length}
-use Rattle.types.specs.declared.epochs.Epoch.{Epoch}
-use Rattle.types.specs.declared.heights.Height.{Height}
-use Rattle.types.specs.declared.signers.Participant.{Participant}
+use Rattle.types.specs.Numbers.{Epoch, Height, Participant}
 use Rattle.forms.specs.Values.{Ack, Cert, TipAck, ack, certified}
 use Rattle.forms.specs.Writing.{write, write_message}
 

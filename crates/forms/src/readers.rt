@@ -117,10 +117,10 @@ fn last_ack<'a>(left: Part<'a>, most: u64) -> Result<Ack<'a>, Fault>
         });
     }
     Ok(Ack {
-        height: Height(height.value),
+        height: Height::new(height.value),
         digest: digest.part,
-        epoch: Epoch(epoch.value),
-        signer: Participant(signer.value),
+        epoch: Epoch::new(epoch.value),
+        signer: Participant::new(signer.value),
         signature: signature.part,
     })
 }
@@ -142,7 +142,7 @@ fn certified_body<'a>(left: Part<'a>) -> Result<Activity<'a>, Fault>
     let height = take_number(left, Field::Height, MAX_RECORD_HEIGHT)?;
     let digest = take_part(height.left, Field::Digest, 32)?;
     Ok(Activity::Certified(Certified {
-        height: Height(height.value),
+        height: Height::new(height.value),
         digest: digest.part,
         certificate: digest.left,
     }))
@@ -160,7 +160,7 @@ fn tip_body<'a>(left: Part<'a>) -> Result<Activity<'a>, Fault>
             at: tip.left.at,
         });
     }
-    Ok(Activity::Tip(Height(tip.value)))
+    Ok(Activity::Tip(Height::new(tip.value)))
 }
 
 /// Reads a record: one kind byte, and then the body that it announces.
@@ -198,7 +198,7 @@ pub fn read_message<'a>(message: &'a [u8]) -> Result<TipAck<'a>, Fault>
     let tip = take_number(all, Field::Tip, u64::MAX)?;
     let ack = last_ack(tip.left, u64::MAX)?;
     Ok(TipAck {
-        tip: Height(tip.value),
+        tip: Height::new(tip.value),
         ack,
     })
 }

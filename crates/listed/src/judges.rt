@@ -25,7 +25,7 @@ fn each_accepted(
         let at = 64 * i;
         if !epochs.accepts(
             epoch,
-            Participant(*signer as u64),
+            Participant::new(*signer as u64),
             height,
             digest,
             &body[at..at + 64],

@@ -3,7 +3,7 @@ use Rattle.std.proofs.Common.{◌≡◌, ℕ, ◌-◌, Bool, true, false, cond, 
 use Rattle.std.proofs.lemmas.Bool.{cases_Bool, cond-true, cond-false, both_ways}
 use Rattle.std.proofs.lemmas.Slice.Eq.{bytes_eq-Decides}
 use Rattle.std.specs.Str.{bytes_eq}
-use Rattle.types.specs.declared.bytes.PublicKey.{PublicKey}
+use Rattle.types.specs.Texts.{PublicKey}
 use Rattle.table.specs.declared.Entry.{Entry}
 use Rattle.table.specs.Keys.{lower}
 use Rattle.table.specs.Rows.{place, onward}

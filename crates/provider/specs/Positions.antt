@@ -1,6 +1,6 @@
 -- The keys of an epoch as an ordered table. Assumes nothing.
 use Rattle.std.specs.Prelude.{ℕ, List, map}
-use Rattle.types.specs.declared.bytes.PublicKey.{PublicKey}
+use Rattle.types.specs.Texts.{PublicKey}
 use Rattle.table.specs.declared.Entry.{Entry}
 
 -- the keys of a table

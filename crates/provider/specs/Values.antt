@@ -2,9 +2,8 @@
 use Rattle.std.specs.Prelude.{ℕ, List, map, take, Option}
 use Rattle.std.specs.Borrow.{Bor}
 use Rattle.std.specs.Option.{option_map}
-use Rattle.types.specs.declared.bytes.PublicKey.{PublicKey}
-use Rattle.types.specs.declared.bytes.Signature.{Signature}
-use Rattle.types.specs.declared.signers.Participant.{Participant}
+use Rattle.types.specs.Texts.{PublicKey, Signature}
+use Rattle.types.specs.Numbers.{Participant}
 use Rattle.provider.specs.declared.attestation.Attestation.{Attestation}
 use Rattle.provider.specs.declared.certificate.Certificate.{Certificate}
 use Rattle.provider.specs.Answers.{Bytes, Attested}

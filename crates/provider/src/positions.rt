@@ -34,7 +34,7 @@ pub fn position(keys: &[PublicKey], key: &PublicKey) -> Option<Participant>
     }; 16];
     enter(keys, &mut rows);
     match table::position(&rows[0..keys.len()], key) {
-        Some(i) => Some(Participant(i as u64)),
+        Some(i) => Some(Participant::new(i as u64)),
         None => None,
     }
 }

@@ -1,7 +1,6 @@
 -- The orders of the keys. Assumes nothing.
 use Rattle.std.specs.Prelude.{ℕ, Bool, true, false, cond, ◌&&◌, ◌||◌, List, [], ◌∷◌, ◌==◌, nat_lt}
-use Rattle.types.specs.declared.heights.Height.{Height}
-use Rattle.types.specs.declared.signers.Participant.{Participant}
+use Rattle.types.specs.Numbers.{Height, Participant}
 use Rattle.table.specs.declared.keys.Due.{Due}
 
 -- the lower height first

@@ -4,4 +4,3 @@ pub mod Order
 pub mod Rows
 pub mod Updates
 pub mod Bytewise
-pub mod PublicKeyKeyLemmas

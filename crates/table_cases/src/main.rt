@@ -88,33 +88,33 @@ fn try_keys<K: Key>(
 fn public_key(each: u8, end: u8) -> PublicKey {
     let mut bytes = [each; 32];
     bytes[31] = end;
-    PublicKey { bytes }
+    PublicKey::new(bytes)
 }
 
 fn due(deadline: u64, height: u64) -> Due {
     Due {
         deadline,
-        height: Height(height),
+        height: Height::new(height),
     }
 }
 
 fn heights(rt: &HostRuntime) -> io::Result<()> {
     println!(rt; "heights")?;
-    let top = Height(18446744073709551615);
+    let top = Height::new(18446744073709551615);
     let mut entries = [Entry { key: top, value: 0 }; 3];
-    try_keys(rt, &mut entries, Height(0), Height(5), Height(6), top)
+    try_keys(rt, &mut entries, Height::new(0), Height::new(5), Height::new(6), top)
 }
 
 fn signers(rt: &HostRuntime) -> io::Result<()> {
     println!(rt; "signers")?;
-    let top = Participant(15);
+    let top = Participant::new(15);
     let mut entries = [Entry { key: top, value: 0 }; 3];
     try_keys(
         rt,
         &mut entries,
-        Participant(0),
-        Participant(1),
-        Participant(7),
+        Participant::new(0),
+        Participant::new(1),
+        Participant::new(7),
         top,
     )
 }

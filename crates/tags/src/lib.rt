@@ -55,7 +55,7 @@ pub fn signature(tag: u64) -> Signature
 {
     let mut bytes = [0; 64];
     bytes[0..8].copy_from_slice(&tag.to_be_bytes());
-    Signature { bytes }
+    Signature::new(bytes)
 }
 
 /// Whether `signature` is the one that carries the tag of this signer, height and digest.

@@ -3,7 +3,7 @@ use Rattle.std.proofs.Common.{◌≡◌, true, [], ◌∷◌, refl}
 use Rattle.std.proofs.lemmas.Bool.{and_parts, and_from}
 use Rattle.table.specs.Keys.{ahead}
 use Rattle.table.specs.Rows.{Above, Sorted}
-use Rattle.types.specs.declared.signers.Participant.{Participant}
+use Rattle.types.specs.Numbers.{Participant}
 use Rattle.tip_commands.specs.Order.{Seats, leads, ascends}
 
 to_above : (k : Participant) (es : Seats) → leads k es ≡ true → Above ahead k es

@@ -2,8 +2,7 @@
 use Rattle.std.specs.Prelude.{Bool, true, ◌&&◌, List, [], ◌∷◌}
 use Rattle.table.specs.Keys.{ahead}
 use Rattle.table.specs.declared.Entry.{Entry}
-use Rattle.types.specs.declared.heights.Height.{Height}
-use Rattle.types.specs.declared.signers.Participant.{Participant}
+use Rattle.types.specs.Numbers.{Height, Participant}
 
 -- seats: each signer's key with its tip
 abbrev pub Seats : Type 0

@@ -4,9 +4,7 @@ use Rattle.std.specs.Str.{bytes_eq}
 use Rattle.table.specs.Keys.{ahead}
 use Rattle.table.specs.Rows.{at, put}
 use Rattle.text.specs.Decimal.{number_of}
-use Rattle.types.specs.Numbers.{height}
-use Rattle.types.specs.declared.heights.Height.{Height}
-use Rattle.types.specs.declared.signers.Participant.{Participant}
+use Rattle.types.specs.Numbers.{height, Height, Participant}
 use Rattle.tip_commands.specs.declared.commands.Command.{Command}
 use Rattle.tip_commands.specs.declared.commands.Command.TheVariants.{Signers, Tip, Wrong}
 use Rattle.tip_commands.specs.declared.faults.Fault.{Fault}

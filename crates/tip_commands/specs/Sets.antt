@@ -1,6 +1,6 @@
 -- The keys of a set, as a table. Assumes nothing.
 use Rattle.std.specs.Prelude.{ℕ, List, map, take, Ok, Err, Result}
-use Rattle.types.specs.declared.signers.Participant.{Participant}
+use Rattle.types.specs.Numbers.{Participant}
 use Rattle.tip_commands.specs.Order.{Seats}
 use Rattle.tip_commands.specs.declared.key_sets.KeySet.{KeySet}
 use Rattle.tip_commands.specs.declared.faults.Fault.{Fault}

@@ -36,8 +36,8 @@ fn enrol(args: &[u8]) -> Result<KeySet, Fault>
         let Some(key) = number(word) else {
             return Err(Fault::NoNumber(set.used + 1));
         };
-        if !set.add(Participant(key)) {
-            return Err(Fault::KeyTwice(Participant(key)));
+        if !set.add(Participant::new(key)) {
+            return Err(Fault::KeyTwice(Participant::new(key)));
         }
         left = rest;
     }
@@ -75,7 +75,7 @@ fn read_tip(args: &[u8]) -> Command
     let Some(height) = number(height) else {
         return Command::Wrong(Fault::NoNumber(2));
     };
-    Command::Tip(Participant(key), Height(height))
+    Command::Tip(Participant::new(key), Height::new(height))
 }
 
 /// What a line says, by its first word and the words after it; `None` where the first word is no command of this part.

@@ -1,7 +1,7 @@
 -- Keys of a set, and the seats for them. Assumes nothing.
 use Rattle.std.proofs.Common.{Bool, List, [], ◌∷◌}
 use Rattle.table.specs.Rows.{Above, Sorted}
-use Rattle.types.specs.declared.heights.Height.{Height}
+use Rattle.types.specs.Numbers.{Height}
 use Rattle.tips.specs.Seats.{seated, opened, Ascending}
 
 module _ {K : Type 0} (less : K → K → Bool) where

@@ -4,7 +4,7 @@ use Rattle.std.proofs.lemmas.List.{take_all, drop_all}
 use Rattle.std.proofs.lemmas.List.Sums.{sum_by_more, sum_by-drop_more}
 use Rattle.std.proofs.lemmas.Bool.{eq-eqb}
 use Rattle.table.specs.declared.Entry.{Entry}
-use Rattle.types.specs.declared.heights.Height.{Height}
+use Rattle.types.specs.Numbers.{Height}
 use Rattle.tips.specs.declared.safe_tip.SafeTip.{SafeTip}
 use Rattle.tips.specs.Seats.{tip_of, settled}
 use Rattle.tips.specs.Tips.{lowest, highest, counted, counts, Moved, Recorded}

@@ -7,7 +7,7 @@ use Rattle.table.specs.declared.Placed.TheVariants.{Added, Replaced, Full}
 use Rattle.table.specs.Keys.{shorter}
 use Rattle.table.specs.Rows.{at, put, without}
 use Rattle.table.specs.Updates.{Inserted, Removed}
-use Rattle.types.specs.declared.heights.Height.{Height}
+use Rattle.types.specs.Numbers.{Height}
 use Rattle.tips.specs.Counting.{Rows, total, more, fewer, taken, tidy}
 use Rattle.tips.proofs.Weights.{at-le, length-le}
 use Rattle.tips.proofs.Tidy.{counted}

@@ -5,7 +5,7 @@ use Rattle.std.proofs.lemmas.Bool.{lt-ltb, le-ltb}
 use Rattle.table.specs.declared.Entry.{Entry}
 use Rattle.table.specs.Keys.{shorter}
 use Rattle.table.specs.Rows.{at, Sorted}
-use Rattle.types.specs.declared.heights.Height.{Height}
+use Rattle.types.specs.Numbers.{Height}
 use Rattle.tips.specs.Counting.{Rows, weigh, total, shifted, least, greatest, tidy, Topmost}
 use Rattle.tips.proofs.Weights.{All-weaker}
 use Rattle.tips.proofs.Tidy.{Counted, counted}

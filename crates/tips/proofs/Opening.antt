@@ -3,7 +3,7 @@ use Rattle.std.proofs.Common.{◌≡◌, ℕ, suc, ◌+◌, ◌-◌, ◌<◌, �
 use Rattle.std.proofs.lemmas.List.{take-replicate}
 use Rattle.std.proofs.lemmas.List.Sums.{sum_by-cons}
 use Rattle.std.proofs.lemmas.Bool.Decides.{nat_tests}
-use Rattle.types.specs.Numbers.{height}
+use Rattle.types.specs.Numbers.{height, number}
 use Rattle.tips.specs.Counting.{Rows, weigh, total, zeros, Topmost}
 use Rattle.tips.specs.Faults.{faults}
 use Rattle.tips.specs.Ranks.{Split}
@@ -13,7 +13,7 @@ use Rattle.tips.proofs.Splits.{split}
 weigh-zeros : (p : ℕ → Bool) (n : ℕ) → weigh p (zeros n) ≡ cond (p 0) n 0
 weigh-zeros p n = go (ltb 0 n) refl (p 0) refl
   where
-    go : (a : Bool) → ltb 0 n ≡ a → (b : Bool) → p 0 ≡ b → weigh p (cond a (record { key = record { 0 = 0 }; value = n } ∷ []) []) ≡ cond b n 0
+    go : (a : Bool) → ltb 0 n ≡ a → (b : Bool) → p 0 ≡ b → weigh p (cond a (record { key = number 0; value = n } ∷ []) []) ≡ cond b n 0
     go true x true y = rw y (omega arith)
     go true x false y = rw y (omega arith)
     go false x true y = let z : n ≡ 0 = grind (arith, nat_tests) in omega arith

@@ -5,8 +5,7 @@ use Rattle.table.specs.declared.Entry.{Entry}
 use Rattle.table.specs.Order.{Total, level}
 use Rattle.table.specs.Rows.{entry, at, Above, Sorted}
 use Rattle.table.proofs.Keeping.{above-trans}
-use Rattle.types.specs.declared.heights.Height.{Height}
-use Rattle.types.specs.Numbers.{height}
+use Rattle.types.specs.Numbers.{Height, height}
 use Rattle.tips.specs.declared.safe_tip.SafeTip.{SafeTip}
 use Rattle.tips.specs.Seats.{tip_of, tips_of, opened, among, carried, reseated, settled, Ascending}
 use Rattle.tips.specs.Tips.{lowest, highest, Holds, Recorded}

@@ -5,7 +5,7 @@ use Rattle.std.proofs.lemmas.Bool.Decides.{nat_tests}
 use Rattle.table.specs.Keys.{shorter}
 use Rattle.table.specs.Rows.{at, put, without}
 use Rattle.table.proofs.Keeping.{all-put, all_without}
-use Rattle.types.specs.declared.heights.Height.{Height}
+use Rattle.types.specs.Numbers.{Height}
 use Rattle.tips.specs.Counting.{Rows, weigh, total, fewer, shifted}
 use Rattle.tips.proofs.Weights.{weigh-more, weigh-fewer, at_some}
 use Rattle.tips.proofs.Tidy.{Counted}

@@ -6,7 +6,7 @@ use Rattle.std.proofs.lemmas.Bool.Decides.{nat_tests}
 use Rattle.table.specs.declared.Entry.{Entry}
 use Rattle.table.specs.Keys.{shorter}
 use Rattle.table.specs.Rows.{at, Sorted}
-use Rattle.types.specs.declared.heights.Height.{Height}
+use Rattle.types.specs.Numbers.{Height}
 use Rattle.tips.specs.Counting.{Rows, weigh, total, greatest, tidy, Topmost}
 use Rattle.tips.specs.Faults.{faults}
 use Rattle.tips.specs.Ranks.{Safe, Split}

@@ -7,7 +7,7 @@ use Rattle.table.specs.Keys.{shorter}
 use Rattle.table.specs.Order.{Total}
 use Rattle.table.specs.Rows.{at, put, without, Sorted, Above}
 use Rattle.table.proofs.Keeping.{all-put, all_without, sorted_put, sorted_without}
-use Rattle.types.specs.declared.heights.Height.{Height}
+use Rattle.types.specs.Numbers.{Height, number}
 use Rattle.tips.specs.Counting.{Rows, more, fewer, under, tidy}
 
 -- the order of heights is total
@@ -15,7 +15,7 @@ pub heights : Total shorter
 heights = record {
   never = λ x. grind (arith, nat_tests);
   trans = λ x y z p q. grind (arith, nat_tests);
-  tied = λ x y p q. let e : x.0 ≡ y.0 = grind (arith, nat_tests) in ap (λ n. record { 0 = n }) e;
+  tied = λ x y p q. let e : x.0 ≡ y.0 = grind (arith, nat_tests) in ap (λ n. number n) e;
 }
 
 pub record Counted (es : Rows) : Type 0 where

@@ -8,7 +8,7 @@ use Rattle.table.specs.Order.{Total}
 use Rattle.table.specs.Rows.{entry, place, at, put, Sorted}
 use Rattle.table.proofs.Facts.{found, found_hit, at_none}
 use Rattle.table.proofs.Keeping.{sorted_put}
-use Rattle.types.specs.declared.heights.Height.{Height}
+use Rattle.types.specs.Numbers.{Height}
 use Rattle.tips.specs.declared.safe_tip.SafeTip.{SafeTip}
 use Rattle.tips.specs.Seats.{tip_of, tips_of, lower_than, seated_after}
 use Rattle.tips.specs.Tips.{lowest, highest, counts, Holds, Moved, if_counted, replaced, Told}

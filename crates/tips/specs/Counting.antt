@@ -5,7 +5,7 @@ use Rattle.table.specs.declared.Entry.{Entry}
 use Rattle.table.specs.Ends.{foremost, hindmost}
 use Rattle.table.specs.Keys.{shorter}
 use Rattle.table.specs.Rows.{at, put, without}
-use Rattle.types.specs.declared.heights.Height.{Height}
+use Rattle.types.specs.Numbers.{Height, number}
 use Rattle.tips.specs.Faults.{faults}
 
 -- a row is a height with the number of signers that have recorded it
@@ -60,7 +60,7 @@ tidy (e ∷ es) = nat_lt 0 e.value && (under e.key es && tidy es)
 
 -- n tips of 0
 abbrev pub zeros : ℕ → Rows
-zeros n = cond (nat_lt 0 n) (record { key = record { 0 = 0 }; value = n } ∷ []) []
+zeros n = cond (nat_lt 0 n) (record { key = number 0; value = n } ∷ []) []
 
 -- of the tips in the two tables hi has the f highest: of those that are h or above, it has all, or f
 abbrev pub Topmost : Rows → Rows → Type 0

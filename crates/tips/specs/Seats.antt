@@ -4,8 +4,7 @@ use Rattle.std.specs.Option.{unwrap_or}
 use Rattle.table.specs.declared.Entry.{Entry}
 use Rattle.table.specs.Order.{level}
 use Rattle.table.specs.Rows.{entry, at, put, Sorted}
-use Rattle.types.specs.declared.heights.Height.{Height}
-use Rattle.types.specs.Numbers.{height}
+use Rattle.types.specs.Numbers.{Height, height}
 
 -- a told tip counts where the tip that the seat records is lower: that one
 abbrev pub lower_than : Height → Option Height → Option Height

@@ -3,8 +3,7 @@ use Rattle.std.specs.Prelude.{◌≡◌, ℕ, ◌+◌, ◌<◌, Bool, true, fals
 use Rattle.table.specs.declared.Entry.{Entry}
 use Rattle.table.specs.Keys.{shorter}
 use Rattle.table.specs.Rows.{entry, at}
-use Rattle.types.specs.declared.heights.Height.{Height}
-use Rattle.types.specs.Numbers.{height}
+use Rattle.types.specs.Numbers.{Height, height}
 use Rattle.tips.specs.declared.safe_tip.SafeTip.{SafeTip}
 use Rattle.tips.specs.declared.set_size.SetSize.{SetSize}
 use Rattle.tips.specs.Counting.{Rows, weigh}

@@ -2,7 +2,7 @@
 ghost use Rattle.std.specs.Prelude.{◌≡◌, ◌<◌, ◌≤◌, map, length, take, Some, None};
 ghost use Rattle.table.specs.Order.{level};
 ghost use Rattle.table.specs.Rows.{place};
-ghost use Rattle.types.specs.declared.heights.Height.{Height};
+ghost use Rattle.types.specs.Numbers.{Height};
 ghost use Rattle.tips.specs.Seats.{among, carried, seated, reseated};
 
 use crate::MAX_SIGNERS;
@@ -40,7 +40,7 @@ pub fn is_among<K: Key>(keys: &[K], key: &K) -> bool
 fn carry<K: Key>(seats: &[Entry<K, Height>], key: &K) -> Height
     ensures { result ≡ carried K.less seats.now key.now }
 {
-    table::lookup(seats, key).unwrap_or(Height(0))
+    table::lookup(seats, key).unwrap_or(Height::new(0))
 }
 
 /// Writes the tips that the keys bring to a new set, in their order, in front of `tips`.
@@ -73,7 +73,7 @@ pub fn change<K: Key>(seats: &mut [Entry<K, Height>], keys: &[K])
     requires few { length keys.now ≤ 16 }
     ensures { seats.new ≡ reseated K.less keys.now seats.old }
 {
-    let mut tips = [Height(0); MAX_SIGNERS];
+    let mut tips = [Height::new(0); MAX_SIGNERS];
     carry_all(seats, keys, &mut tips);
     seat_all(seats, keys, &tips);
 }

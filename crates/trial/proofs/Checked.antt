@@ -4,8 +4,8 @@ use Rattle.std.proofs.lemmas.List.{length-map, length-take-le}
 use Rattle.std.proofs.lemmas.List.Elements.{All-nil, All-cons}
 use Rattle.std.proofs.lemmas.Bool.{cases_Bool, cond-true, cond-false, and_parts, eqb-true, ltb-true, ltb-false}
 use Rattle.std.specs.Str.{bytes_eq}
-use Rattle.types.specs.declared.bytes.PublicKey.{PublicKey}
-use Rattle.types.specs.declared.signers.Participant.{Participant}
+use Rattle.types.specs.Texts.{PublicKey}
+use Rattle.types.specs.Numbers.{Participant}
 use Rattle.table.specs.Keys.{lower}
 use Rattle.provider.specs.Answers.{Bytes}
 use Rattle.provider.specs.Laws.{Ascending}

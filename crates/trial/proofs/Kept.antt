@@ -3,7 +3,7 @@ use Rattle.std.proofs.Common.{◌≡◌, ℕ, ◌<◌, true, ltb, List, length, 
 use Rattle.std.proofs.lemmas.Slice.Eq.{bytes_eq-Decides}
 use Rattle.std.proofs.lemmas.Bool.{and_parts, and_from, lt-ltb, false≢true}
 use Rattle.std.specs.Str.{bytes_eq}
-use Rattle.types.specs.declared.signers.Participant.{Participant}
+use Rattle.types.specs.Numbers.{Participant}
 use Rattle.provider.specs.Answers.{Bytes}
 use Rattle.provider.specs.Laws.{KeySet}
 use Rattle.provider.specs.Values.{number}

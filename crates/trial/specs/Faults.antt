@@ -1,7 +1,7 @@
 -- What is wrong with a list of epochs: the first fault, in the order of the list. Assumes nothing.
 use Rattle.std.specs.Prelude.{ℕ, suc, Bool, cond, not, List, [], ◌∷◌, is_some, Some, None, Option, ◌==◌, nat_lt}
 use Rattle.std.specs.Str.{bytes_eq}
-use Rattle.types.specs.declared.signers.Participant.{Participant}
+use Rattle.types.specs.Numbers.{Participant}
 use Rattle.table.specs.Keys.{lower}
 use Rattle.provider.specs.Answers.{Bytes}
 use Rattle.trial.specs.declared.epoch_set.EpochSet.{EpochSet}

@@ -1,6 +1,6 @@
 -- What holds of every set in a list without a fault. Assumes nothing.
 use Rattle.std.specs.Prelude.{◌≡◌, ◌<◌, ◌≤◌, length, Some}
-use Rattle.types.specs.declared.signers.Participant.{Participant}
+use Rattle.types.specs.Numbers.{Participant}
 use Rattle.provider.specs.Laws.{KeySet}
 use Rattle.trial.specs.declared.epoch_set.EpochSet.{EpochSet}
 use Rattle.trial.specs.Sets.{keys_in}

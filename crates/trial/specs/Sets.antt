@@ -1,6 +1,6 @@
 -- The keys of an epoch, and an epoch in a list. Assumes nothing.
 use Rattle.std.specs.Prelude.{ℕ, cond, List, [], ◌∷◌, take, Some, None, Option, ◌==◌}
-use Rattle.types.specs.declared.bytes.PublicKey.{PublicKey}
+use Rattle.types.specs.Texts.{PublicKey}
 use Rattle.provider.specs.Answers.{Bytes}
 use Rattle.provider.specs.Values.{key_bytes}
 use Rattle.trial.specs.declared.epoch_set.EpochSet.{EpochSet}

@@ -51,7 +51,7 @@ fn by_value(key: &PublicKey) -> PublicKey
     ensures value { result.bytes ≡ key.now.bytes }
     ensures sized { length key.now.bytes ≡ 32 }
 {
-    PublicKey { bytes: key.bytes }
+    PublicKey::new(key.bytes)
 }
 
 /// What is wrong with the order of the keys.

@@ -1,6 +1,7 @@
 -- Four signers of one epoch under the listed provider, the first of them the engine's own. Assumes nothing.
 use Rattle.std.specs.Prelude.{ℕ, List, [], ◌∷◌, replicate, Some}
-use Rattle.types.specs.declared.bytes.PublicKey.{PublicKey}
+use Rattle.types.specs.Numbers.{epoch, participant}
+use Rattle.types.specs.Texts.{PublicKey, of_bytes}
 use Rattle.forms.specs.Values.{Ack}
 use Rattle.forms.specs.Writing.{write_message}
 use Rattle.provider.specs.Answers.{Answers, Bytes}
@@ -15,15 +16,15 @@ abbrev pub key : ℕ → Bytes
 key i = replicate 32 i
 
 abbrev pub public_key : ℕ → PublicKey
-public_key i = record { bytes = key i }
+public_key i = of_bytes (key i)
 
 -- epoch 0: signers 0 to 3, own signer 0; the other places for keys are not of the set
 abbrev pub signers : EpochSet
 signers = record {
-  epoch = record { 0 = 0 };
+  epoch = epoch 0;
   keys = public_key 0 ∷ public_key 1 ∷ public_key 2 ∷ public_key 3 ∷ replicate 12 (public_key 0);
   n = 4;
-  me = Some (record { 0 = 0 });
+  me = Some (participant 0);
 }
 
 abbrev pub epochs : List EpochSet

@@ -24,8 +24,8 @@ impl Board {
     {
         Board {
             seats: [Entry {
-                key: Participant(0),
-                value: Height(0),
+                key: Participant::new(0),
+                value: Height::new(0),
             }; MAX_SIGNERS],
             used: 0,
             tables: SafeTip::new(),
@@ -44,7 +44,7 @@ impl Board {
         requires { 0 < self.now.used }
         ensures { Safe (tips_of (sitting self.now)) result.0 }
     {
-        self.safe_tip().unwrap_or(Height(0))
+        self.safe_tip().unwrap_or(Height::new(0))
     }
 }
 

@@ -18,8 +18,8 @@ impl KeySet {
     {
         KeySet {
             rows: [Entry {
-                key: Participant(0),
-                value: Height(0),
+                key: Participant::new(0),
+                value: Height::new(0),
             }; MAX_KEYS],
             used: 0,
         }
@@ -30,7 +30,7 @@ impl KeySet {
         ensures keys { take self.now.used result ≡ keys_of (seats_of self.now) }
         ensures sized { length result ≡ 16 }
     {
-        let mut keys = [Participant(0); MAX_KEYS];
+        let mut keys = [Participant::new(0); MAX_KEYS];
         copy_keys(&self.rows[0..self.used], &mut keys);
         keys
     }
@@ -46,7 +46,7 @@ impl KeySet {
         if table::lookup(&self.rows[0..used], &key).is_some() {
             return false;
         }
-        if let Placed::Added = table::insert(&mut self.rows, used, key, Height(0)) {
+        if let Placed::Added = table::insert(&mut self.rows, used, key, Height::new(0)) {
             self.used = used + 1;
         }
         true

@@ -18,7 +18,7 @@ impl Counts {
         let used = if count > 0 { 1 } else { 0 };
         Counts {
             rows: [Entry {
-                key: Height(0),
+                key: Height::new(0),
                 value: count,
             }; MAX_SIGNERS],
             used,

@@ -50,7 +50,7 @@ impl SafeTip {
         let f = max_faults(n);
         self.lo = Counts::of_zeros(n - f);
         self.hi = Counts::of_zeros(f);
-        seat_all(seats, keys, &[Height(0); MAX_SIGNERS]);
+        seat_all(seats, keys, &[Height::new(0); MAX_SIGNERS]);
         Ok(())
     }
 

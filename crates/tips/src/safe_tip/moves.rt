@@ -59,7 +59,7 @@ impl SafeTip {
         requires { has self.old old ≡ true }
         ensures { Moved old (height 0) self.old self.new }
     {
-        let new = Height(0);
+        let new = Height::new(0);
 
         // Case 1: nothing to do.
         if old.0 == new.0 {

@@ -1,7 +1,7 @@
 use Rattle.std.proofs.Common.{List, sym, ◌∙◌, subst}
 use Rattle.table.specs.Keys.{ahead}
 use Rattle.tips.specs.Seats.{Ascending}
-use Rattle.types.specs.declared.signers.Participant.{Participant}
+use Rattle.types.specs.Numbers.{Participant}
 use Rattle.console_tips.proofs.Seating.{facts, sorted_lent, holds_lent, length_lent, lent_keys_lem, ascending-keys}
 use Rattle.console_tips.proofs.boards.Board.change.Goals as goal
 

@@ -2,7 +2,7 @@ use Rattle.std.proofs.Common.{◌≡◌, List, length, sym, refl, ap, ◌∙◌,
 use Rattle.table.specs.Keys.{ahead}
 use Rattle.tip_commands.specs.Sets.{seats_of, keys_of}
 use Rattle.tips.specs.Seats.{opened, Ascending}
-use Rattle.types.specs.declared.signers.Participant.{Participant}
+use Rattle.types.specs.Numbers.{Participant}
 use Rattle.console_tips.proofs.Seating.{facts, ascending-keys, length-keys, lent_keys_lem, length-opened}
 use Rattle.console_tips.proofs.boards.Board.open.Goals as goal
 

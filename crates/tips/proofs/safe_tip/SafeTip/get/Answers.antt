@@ -1,5 +1,5 @@
 use Rattle.std.proofs.Common.{◌≡◌, Some, None, Option, sym}
-use Rattle.types.specs.declared.heights.Height.{Height}
+use Rattle.types.specs.Numbers.{Height}
 use Rattle.tips.specs.declared.safe_tip.SafeTip.{SafeTip}
 use Rattle.tips.specs.Counting.{greatest}
 use Rattle.tips.specs.Tips.{lowest, highest, Answered}
