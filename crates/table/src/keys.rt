@@ -1,66 +1,34 @@
 //! The types of keys that tables are used with, each with its order.
-ghost use Rattle.std.specs.Prelude.{◌≡◌};
-ghost use Rattle.std.proofs.Common.{ap, rules};
-ghost use Rattle.table.specs.Keys.{shorter, ahead, sooner, lower};
-ghost use Rattle.table.specs.Bytewise.{lower_total};
-ghost use Rattle.table.specs.PublicKeyKeyLemmas.{of_bytes};
+ghost use Rattle.std.proofs.Common.{rules};
+ghost use Rattle.table.specs.Keys.{smaller, sooner, earlier};
+ghost use Rattle.table.specs.Bytewise.{earlier_total, earlier_derived};
 
 use crate::Key;
-use types::{Height, Participant, PublicKey};
-
-impl Key for Height {
-    ghost less = { shorter };
-
-    ghost order = { Prim.search rules };
-
-    fn before(&self, other: &Height) -> bool {
-        self.get() < other.get()
-    }
-}
-
-impl Key for Participant {
-    ghost less = { ahead };
-
-    ghost order = { Prim.search rules };
-
-    fn before(&self, other: &Participant) -> bool {
-        self.0 < other.0
-    }
-}
+use types::{Bytes, Height, Number};
 
 /// A height and the time at which it is due: the earlier deadline first, then the lower height.
-#[derive(Clone, Copy)]
+#[derive(Clone, Copy, Debug, PartialEq, Eq, PartialOrd, Ord)]
 pub struct Due {
+    /// When it is due.
     pub deadline: u64,
+    /// What is due then.
     pub height: Height,
+}
+
+impl<K: Copy + Ord> Key for Number<K> {
+    ghost less = { smaller };
+
+    ghost ordered = { record { order = Prim.search rules; derived = Prim.search rules } };
 }
 
 impl Key for Due {
     ghost less = { sooner };
 
-    ghost order = { Prim.search rules };
-
-    fn before(&self, other: &Due) -> bool {
-        self.deadline < other.deadline
-            || (self.deadline == other.deadline && self.height.0 < other.height.0)
-    }
+    ghost ordered = { record { order = Prim.search rules; derived = Prim.search rules } };
 }
 
-impl Key for PublicKey {
-    ghost less = { λ x y. lower x.bytes y.bytes };
+impl<K: Copy + Ord, const N: usize> Key for Bytes<K, N> {
+    ghost less = { earlier };
 
-    ghost order = { record {
-      never = λ x. lower_total.never x.bytes;
-      trans = λ x y z. lower_total.trans x.bytes y.bytes z.bytes;
-      tied = λ x y p q. let e = lower_total.tied x.bytes y.bytes p q in ap of_bytes e;
-    } };
-
-    fn before(&self, other: &PublicKey) -> bool {
-        for i in 0..32 {
-            if self.bytes[i] != other.bytes[i] {
-                return self.bytes[i] < other.bytes[i];
-            }
-        }
-        false
-    }
+    ghost ordered = { record { order = earlier_total; derived = λ x y. earlier_derived x.bytes y.bytes } };
 }

@@ -2,7 +2,7 @@
 #![tactic(auto)]
 
 ghost use Rattle.std.specs.Prelude.{◌≡◌, Bool};
-ghost use Rattle.table.specs.Order.{Total};
+ghost use Rattle.table.specs.Order.{Ordered};
 
 mod keys;
 mod lookups;
@@ -12,15 +12,19 @@ pub use keys::Due;
 pub use lookups::{first, last, lookup, position};
 pub use updates::{insert, remove};
 
-/// A type of keys with a total order.
-pub trait Key: Copy {
+/// A type of keys with a total order, which is its `<`.
+pub trait Key: Copy + Ord {
     ghost less: { Self → Self → Bool };
 
     /// Whether this key comes before `other`.
-    fn before(&self, other: &Self) -> bool
-        ensures { result ≡ less self.now other.now };
+    final fn before(&self, other: &Self) -> bool
+        ensures { result ≡ less self.now other.now }
+    {
+        self < other
+    }
 
-    ghost order: { Total less };
+    // What each type owes: the order is total, and `<` is this order.
+    ghost ordered: { Ordered Self.partial_cmp less };
 }
 
 /// A key with its value.

@@ -6,7 +6,7 @@ use Rattle.table.proofs.updates.remove.Goals as goal
 
 pub returns-in-Some : goal.returns-in-Some
 returns-in-Some g c =
-    let o = g.met.K.Key.order in
+    let o = g.met.K.Key.ordered.order in
     let k = c.args.key.now in
     let es = c.args.entries.now in
     let n = c.min-n.result in
@@ -19,7 +19,7 @@ returns-in-Some g c =
 
 pub returns-in-None : goal.returns-in-None
 returns-in-None g c =
-    let o = g.met.K.Key.order in
+    let o = g.met.K.Key.ordered.order in
     let k = c.args.key.now in
     let es = c.args.entries.now in
     let n = c.min-n.result in

@@ -1,6 +1,0 @@
-use Rattle.std.proofs.Common.{◌≡◌, drop}
-use Rattle.table.specs.Keys.{lower}
-use Rattle.table.proofs.keys.PublicKeyKey.before.Given as goal
-
-abbrev pub invariant-loop-i : goal.invariant-loop-i
-invariant-loop-i l = lower (drop l.i l.self.bytes) (drop l.i l.other.bytes) ≡ lower l.self.bytes l.other.bytes
