@@ -236,7 +236,7 @@ prune-keeps s t (Err Off) d e h a c = cut_keeps t s d.log e.log h a c
 read_keeps : (s : ℕ) (o p : Option Overrun) (r : Result (Unit {0}) ReadStop) (d e : Disk) → Ascends 0 d.log.sections → Reading d o r e p → Keeps s d.log e.log
 read_keeps s o p (Ok _) d e a (_, _, _, _, f) = firmer_keeps s d.log e.log a (firmer_trans d.log (all_synced d.log) e.log (firmer_firm d.log) f)
 read_keeps s o p (Err (Overran x)) d e a (_, _, _, _, f) =
-    firmer_keeps s d.log e.log a (firmer_trans d.log (synced_to x.section x.number d.log) e.log (synced_to_firmer x.section x.number d.log) f)
+    firmer_keeps s d.log e.log a (firmer_trans d.log (synced_to x.place.section x.place.number d.log) e.log (synced_to_firmer x.place.section x.place.number d.log) f)
 read_keeps s o p (Err Crammed) d e a (_, _, f) = firmer_keeps s d.log e.log a f
 read_keeps s o p (Err Dark) d e a (_, c) = cut_keeps 0 s d.log e.log (omega arith) a c
 

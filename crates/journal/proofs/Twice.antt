@@ -14,8 +14,8 @@ use Rattle.journal.proofs.Stays.{synced_to_firmer}
 all_read : (v w : Log) → Firmer (all_synced v) w → reading w.sections ≡ reading v.sections
 all_read v w f = firmer_reading v w (firmer_trans v (all_synced v) w (firmer_firm v) f)
 
-part-read : (x : Overrun) (v w : Log) → Firmer (synced_to x.section x.number v) w → reading w.sections ≡ reading v.sections
-part-read x v w f = firmer_reading v w (firmer_trans v (synced_to x.section x.number v) w (synced_to_firmer x.section x.number v) f)
+part-read : (x : Overrun) (v w : Log) → Firmer (synced_to x.place.section x.place.number v) w → reading w.sections ≡ reading v.sections
+part-read x v w f = firmer_reading v w (firmer_trans v (synced_to x.place.section x.place.number v) w (synced_to_firmer x.place.section x.place.number v) f)
 
 apart : (x : Overrun) (p : Option Overrun) → p ≡ None → p ≡ Some x → ⊥
 apart x p a b = let z : ◌≡◌ {A = ℕ} 0 1 = cc in omega arith

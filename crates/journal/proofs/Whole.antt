@@ -149,7 +149,7 @@ prune-held s b t (Err Off) d e k h = left-held t s b d.log.sections e.log.sectio
 read_held : (s : ℕ) (b : Bytes) (o p : Option Overrun) (r : Result (Unit {0}) ReadStop) (d e : Disk) → Reading d o r e p → Held s b e.log.sections → Held s b d.log.sections
 read_held s b o p (Ok _) d e (_, _, _, _, f) h = firmer_held s b d.log.sections e.log.sections (firmer_trans d.log (all_synced d.log) e.log (firmer_firm d.log) f).sections h
 read_held s b o p (Err (Overran x)) d e (_, _, _, _, f) h =
-    firmer_held s b d.log.sections e.log.sections (firmer_trans d.log (synced_to x.section x.number d.log) e.log (synced_to_firmer x.section x.number d.log) f).sections h
+    firmer_held s b d.log.sections e.log.sections (firmer_trans d.log (synced_to x.place.section x.place.number d.log) e.log (synced_to_firmer x.place.section x.place.number d.log) f).sections h
 read_held s b o p (Err Crammed) d e (_, _, f) h = firmer_held s b d.log.sections e.log.sections f.sections h
 read_held s b o p (Err Dark) d e (_, k) h = left-held 0 s b d.log.sections e.log.sections k.sections h
 

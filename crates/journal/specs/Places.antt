@@ -6,7 +6,7 @@ use Rattle.journal.specs.declared.places.Record.{Record}
 
 -- a record that is lent, as a plain value
 abbrev pub placed : Record → Placed
-placed x = record { section = x.section; number = x.number; bytes = x.bytes.now }
+placed x = record { section = x.place.section; number = x.place.number; bytes = x.bytes.now }
 
 -- whether a record stands past the n-th of section s in reading order
 unfoldable pub past : ℕ → ℕ → Placed → Bool

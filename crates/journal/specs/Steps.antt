@@ -51,7 +51,7 @@ Pruning d s (Err Off) e = Cut s d.log e.log
 abbrev pub Reading : Disk → Option Overrun → Result (Unit {0}) ReadStop → Disk → Option Overrun → Type 0
 Reading d o (Ok _) e p = (d.flushes ≡ true) × (e.flushes ≡ true) × (o ≡ None) × (p ≡ None) × Firmer (all_synced d.log) e.log
 Reading d o (Err (Overran x)) e p =
-    (d.flushes ≡ true) × (e.flushes ≡ true) × (o ≡ Some x) × (p ≡ Some x) × Firmer (synced_to x.section x.number d.log) e.log
+    (d.flushes ≡ true) × (e.flushes ≡ true) × (o ≡ Some x) × (p ≡ Some x) × Firmer (synced_to x.place.section x.place.number d.log) e.log
 Reading d o (Err Crammed) e p = (d.flushes ≡ false) × (p ≡ o) × Firmer d.log e.log
 Reading d o (Err Dark) e p = (o ≡ None → p ≡ None) × Cut 0 d.log e.log
 

@@ -2,22 +2,16 @@
 ghost use Rattle.journal.specs.Laws.{DurableStays, RecordsWhole, ReadTwice};
 
 /// Durable records that are not pruned outlast every list of operations, with a power cut anywhere in it.
-pub fn durable_stays() -> u8
+pub fn durable_stays()
     ensures { DurableStays }
-{
-    0
-}
+{}
 
 /// After any list of operations, with a power cut anywhere in it, reading answers whole records only.
-pub fn records_whole() -> u8
+pub fn records_whole()
     ensures { RecordsWhole }
-{
-    0
-}
+{}
 
 /// What reading answers twice is the same.
-pub fn read_twice() -> u8
+pub fn read_twice()
     ensures { ReadTwice }
-{
-    0
-}
+{}

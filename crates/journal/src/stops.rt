@@ -4,31 +4,38 @@ ghost use Rattle.journal.specs.Numbers.{stop_number};
 
 use crate::places::Overrun;
 
-/// No room; a section below the bound; or the power went while the operation ran.
-#[derive(Clone, Copy, PartialEq, Eq)]
+/// Why an operation that changes a journal stopped.
+#[derive(Clone, Copy, Debug, PartialEq, Eq, Hash)]
 pub enum Stop {
+    /// The medium has no room.
     Full,
+    /// The section is below the bound.
     Pruned,
+    /// The power went while the operation ran.
     Off,
 }
 
-/// Why reading stopped: an overrun; no room to pass on what was held back; or the power went.
-#[derive(Clone, Copy, PartialEq, Eq)]
+/// Why reading stopped.
+#[derive(Clone, Copy, Debug, PartialEq, Eq, Hash)]
 pub enum ReadStop {
+    /// Reading came to something that is no record and no end.
     Overrun(Overrun),
+    /// The medium has no room to pass on what was held back.
     Full,
+    /// The power went while the operation ran.
     Off,
 }
 
 impl Stop {
     /// The number of the refusal; none where the power went.
+    // kept: every refusal has its number, and these two stand in a list that goes on in other crates.
     pub fn number(self) -> Option<u8>
         ensures { result ≡ stop_number self }
     {
         match self {
-            Stop::Full => Some(27),
-            Stop::Pruned => Some(28),
-            Stop::Off => None,
+            Self::Full => Some(27),
+            Self::Pruned => Some(28),
+            Self::Off => None,
         }
     }
 }

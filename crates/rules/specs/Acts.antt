@@ -74,7 +74,7 @@ at_desk fail k = k
 -- what reading makes durable: all, or what stands before an overrun
 abbrev pub read_to : Option Overrun → Log → Log
 read_to None v = all_synced v
-read_to (Some x) v = synced_to x.section x.number v
+read_to (Some x) v = synced_to x.place.section x.place.number v
 
 -- what an act does to the journal's value
 abbrev pub in_log : Act → Log → Log

@@ -168,7 +168,7 @@ open_from p s e now room xs o (r ∷ rs) =
 -- whether a record stands before an overrun
 abbrev pub before : Option Overrun → Placed → Bool
 before None r = true
-before (Some x) r = nat_lt r.section x.section || (r.section == x.section && nat_lt r.number x.number)
+before (Some x) r = nat_lt r.section x.place.section || (r.section == x.place.section && nat_lt r.number x.place.number)
 
 abbrev pub is_shut : Engine → Bool
 is_shut shut = true

@@ -29,7 +29,7 @@ pub defect_pass : (f : Cell → Option Defect) (s n : ℕ) (c : Cell) (cs : List
 defect_pass f s n c cs e = defect-more f s n c cs ∙ ap (λ o. or_on c.slot.section (turn s n c) o (first_defect f c.slot.section (suc (turn s n c)) cs)) e
 
 pub defect-found : (f : Cell → Option Defect) (s n : ℕ) (c : Cell) (cs : List Cell) (w : Defect) → f c ≡ Some w →
-    first_defect f s n (c ∷ cs) ≡ Some (record { section = c.slot.section; number = turn s n c; what = w })
+    first_defect f s n (c ∷ cs) ≡ Some (record { place = record { section = c.slot.section; number = turn s n c }; what = w })
 defect-found f s n c cs w e = defect-more f s n c cs ∙ ap (λ o. or_on c.slot.section (turn s n c) o (first_defect f c.slot.section (suc (turn s n c)) cs)) e
 
 defect-same : (f g : Cell → Option Defect) (s n : ℕ) (l : List Cell) → All (λ c. f c ≡ g c) l → first_defect f s n l ≡ first_defect g s n l

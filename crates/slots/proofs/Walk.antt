@@ -184,11 +184,11 @@ pub sought_room : (n m : ℕ) (from k : Key) (xs : List Slot) → Sought n from 
 sought_room n m from k xs s q t = omega (arith, s.few, t, turn-least (eqb from.section k.section) n, ap (λ (l : List Cell). length l) q.split)
 
 pub sought_found : (n m : ℕ) (from k : Key) (xs : List Slot) (w : Defect) → Sought n from xs → (q : Met from k xs) → m ≡ cond (eqb from.section k.section) n 0 →
-    Some w ≡ flaw (get_or xs k.at blank).len (aged k 0 xs) → Some (record { section = k.section; number = m; what = w }) ≡ over xs
+    Some w ≡ flaw (get_or xs k.at blank).len (aged k 0 xs) → Some (record { place = record { section = k.section; number = m }; what = w }) ≡ over xs
 sought_found n m from k xs w s q t some =
     let e : m ≡ turn from.section n q.cell = t ∙ sym (met_turn n from k xs q) in
-    ap (λ (z : Key). Some (record { section = z.section; number = m; what = w })) (sym q.key)
-    ∙ ap (λ (j : ℕ). Some (record { section = q.cell.slot.section; number = j; what = w })) e
+    ap (λ (z : Key). Some (record { place = record { section = z.section; number = m }; what = w })) (sym q.key)
+    ∙ ap (λ (j : ℕ). Some (record { place = record { section = q.cell.slot.section; number = j }; what = w })) e
     ∙ sym (defect-found (defect xs) from.section n q.cell q.rest w (met_defect from k xs q ∙ sym some))
     ∙ ap (first_defect (defect xs) from.section n) (sym q.split) ∙ s.left
 

@@ -65,7 +65,7 @@ defect xs c = flaw c.slot.len (aged (key c) 0 xs)
 -- an overrun at a place where there is a defect, else what comes after
 abbrev pub or_on : ℕ → ℕ → Option Defect → Option Overrun → Option Overrun
 or_on s n None rest = rest
-or_on s n (Some w) rest = Some (record { section = s; number = n; what = w })
+or_on s n (Some w) rest = Some (record { place = record { section = s; number = n }; what = w })
 
 -- the first record with a defect, where n records of section s were read before
 unfoldable pub first_defect : (Cell → Option Defect) → ℕ → ℕ → List Cell → Option Overrun

@@ -17,8 +17,10 @@ fn record_at(slots: &[Slot], key: Key, number: u64) -> Record<'_>
     let slot = &slots[key.at];
     let len = (slot.len as usize).min(1068);
     Record {
-        section: key.section,
-        number,
+        place: Place {
+            section: key.section,
+            number,
+        },
         bytes: &slot.bytes[0..len],
     }
 }
@@ -90,11 +92,11 @@ pub(crate) fn first_overrun(slots: &[Slot]) -> Option<Overrun>
     while let Some(key) = following(slots, from) {
         let number = turn_of(from.section, count, key.section);
         if let Some(what) = defect_at(slots, key) {
-            return Some(Overrun {
+            let place = Place {
                 section: key.section,
                 number,
-                what,
-            });
+            };
+            return Some(Overrun { place, what });
         }
         count = number + 1;
         from = key;

@@ -11,7 +11,7 @@ returns-in-Some c =
     let o = c.in-Some.overrun in
     let e = sym c.in-Some.ensures in
     record {
-      step = (refl, refl, e, e, solid_synced_to o.section o.number (log_of j.bound j.slots.now) (solid_grouped (order j.slots.now)));
+      step = (refl, refl, e, e, solid_synced_to o.place.section o.place.number (log_of j.bound j.slots.now) (solid_grouped (order j.slots.now)));
       formed = formed_log j.bound j.slots.now;
       power = (tt, refl);
     }
