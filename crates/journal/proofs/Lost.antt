@@ -13,7 +13,7 @@ Solid xs = All (λ x. x.loose ≡ []) xs
 abbrev pub unbound : Log → Log
 unbound v = record { bound = 0; sections = v.sections }
 
-section-firm : (x : Section) → FirmerSection x (firm x)
+pub section-firm : (x : Section) → FirmerSection x (firm x)
 unfolding firm all_of
 section-firm x = record { number = refl; same = append-nil (x.durable ++ x.loose); longer = omega (arith, length-append x.durable x.loose) }
 

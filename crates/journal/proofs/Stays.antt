@@ -12,7 +12,7 @@ use Rattle.journal.specs.declared.stops.Stop.TheVariants.{Full, Pruned, Off}
 use Rattle.journal.specs.declared.stops.ReadStop.{ReadStop}
 use Rattle.journal.specs.declared.stops.ReadStop.TheVariants.{Overrun as Overran, Full as Crammed, Off as Dark}
 use Rattle.journal.proofs.Firm.{section_refl, firmer_refl, firmer_trans, both_cond}
-use Rattle.journal.proofs.Lost.{firmer_firm}
+use Rattle.journal.proofs.Lost.{section-firm, firmer_firm}
 use Rattle.journal.proofs.Leaves.{ascends-lower, left-ascends}
 
 -- beginnings
@@ -150,10 +150,6 @@ all-left-begins below s (x ∷ xs) ws h (ys, l, (rest, a, e)) =
     ])
 
 -- to make durable is to make firmer
-section-firm : (x : Section) → FirmerSection x (firm x)
-unfolding firm all_of
-section-firm x = record { number = refl; same = append-nil (x.durable ++ x.loose); longer = omega (arith, length-append x.durable x.loose) }
-
 section-firm_to : (n : ℕ) (x : Section) → FirmerSection x (firm_to n x)
 unfolding firm_to all_of
 section-firm_to n x =
