@@ -1,15 +1,19 @@
 -- The words of a line. Assumes nothing.
-use Rattle.std.specs.Prelude.{◌≡◌, ℕ, suc, ◌<◌, Bool, true, false, cond, not, ◌||◌, List, [], ◌∷◌, length, Some, None, Option, ◌==◌}
+use Rattle.std.specs.Prelude.{◌≡◌, ℕ, ◌<◌, Bool, false, cond, not, ◌||◌, List, [], ◌∷◌, length, Some, None, Option, ◌==◌}
 use Rattle.std.specs.Borrow.{Bor}
 
 -- a space or a tab
 abbrev pub blank : ℕ → Bool
 blank c = c == 32 || c == 9
 
+-- a byte of a word: any but a blank
+abbrev pub in_word : ℕ → Bool
+in_word c = not (blank c)
+
 -- the line goes on with a byte of a word
 abbrev pub begins : List ℕ → Bool
 begins [] = false
-begins (c ∷ cs) = not (blank c)
+begins (c ∷ cs) = in_word c
 
 -- the byte c in front of the first word
 abbrev pub onto : ℕ → List (List ℕ) → List (List ℕ)
@@ -20,16 +24,6 @@ onto c (w ∷ ws) = (c ∷ w) ∷ ws
 unfoldable pub words : List ℕ → List (List ℕ)
 words [] = []
 words (c ∷ cs) = cond (blank c) (words cs) (cond (begins cs) (onto c (words cs)) ((c ∷ []) ∷ words cs))
-
--- c ends a run of blanks, or of bytes that are none, as kind says
-abbrev pub stops : Bool → ℕ → Bool
-stops true c = not (blank c)
-stops false c = blank c
-
--- how many bytes at the front are blank, or are not, as kind says
-unfoldable pub leading : Bool → List ℕ → ℕ
-leading kind [] = 0
-leading kind (c ∷ cs) = cond (stops kind c) 0 (suc (leading kind cs))
 
 -- a line split behind its first word: that word, with the words of the rest, gives the words of the line
 pub record Split (line word rest : List ℕ) : Type 0 where

@@ -6,11 +6,10 @@ ghost use Rattle.text.specs.Decimal.{number_of, pushed, NumberReadsBack};
 fn push_digit(value: u64, byte: u8) -> Option<u64>
     ensures { result ≡ pushed value byte }
 {
-    if byte < b'0' || b'9' < byte {
+    if !byte.is_ascii_digit() {
         return None;
     }
-    let tens = value.checked_mul(10)?;
-    tens.checked_add((byte - b'0') as u64)
+    value.checked_mul(10)?.checked_add(u64::from(byte - b'0'))
 }
 
 /// The number that the word spells: one digit or more, with zeros in front or not, below 2^64.
@@ -21,15 +20,13 @@ pub fn number(word: &[u8]) -> Option<u64>
         return None;
     }
     let mut value = 0;
-    for byte in word {
-        value = push_digit(value, *byte)?;
+    for &byte in word {
+        value = push_digit(value, byte)?;
     }
     Some(value)
 }
 
 /// States that what is printed of a number is read as that number.
-pub fn number_reads_back() -> u8
+pub fn number_reads_back()
     ensures { NumberReadsBack }
-{
-    0
-}
+{}

@@ -7,4 +7,4 @@ mod words;
 
 pub use decimal::{number, number_reads_back};
 pub use hexadecimal::{Hex, hex_reads_back, read_hex};
-pub use words::{count_words, same, split_word};
+pub use words::{Words, count_words, split_word};

@@ -1,12 +1,12 @@
-use Rattle.std.proofs.Common.{arith}
-use Rattle.text.proofs.Splitting.{no_split, first_split}
+use Rattle.std.proofs.Common.{sym, ◌∙◌}
+use Rattle.std.proofs.lemmas.List.{take_rest}
+use Rattle.text.proofs.Splitting.{words_none, first_split}
 use Rattle.text.proofs.words.split_word.Goals as goal
 
-pub returns-then-end-eq0 : goal.returns-then-end-eq0
-returns-then-end-eq0 c =
-    no_split c.args.line.now c.leading-start.result c.leading-end.result c.leading-start.ensures.value c.leading-end.ensures.value (omega arith)
+pub returns-in_err-rest : goal.returns-in_err-rest
+returns-in_err-rest c = rw c.from_residual.ensures (words_none c.args.line.now (sym c.word_start.ensures ∙ c.in_err-rest.was))
 
 pub returns : goal.returns
 returns c =
-    first_split c.args.line.now c.leading-start.result c.leading-end.result c.leading-start.ensures.value c.leading-end.ensures.value
-    c.leading-start.ensures.within c.leading-end.ensures.within (omega arith)
+    let e = rw take_rest at c.word_len-end.ensures in
+    rw (take_rest, take_rest) (first_split c.args.line.now c.in_ok-rest.field-0 c.word_len-end.result (sym c.word_start.ensures ∙ c.in_ok-rest.was) e)
