@@ -1,14 +1,18 @@
 -- How many words are counted.
-use Rattle.std.proofs.Common.{◌≡◌, ℕ, ◌+◌, List, [], ◌∷◌, length, is_some, Ok, sym, ◌∙◌, inl, inr, arith}
-use Rattle.std.proofs.lemmas.Bool.{cases_Bool, cond-true, cond-false}
+use Rattle.std.proofs.Common.{◌≡◌, ℕ, ◌+◌, ◌-◌, List, [], ◌∷◌, length, Some, None, Ok, Err, arith}
+use Rattle.std.proofs.lemmas.Grind.{common_steps}
+use Rattle.std.specs.List.{position}
+use Rattle.std.specs.Option.{is_none}
 use Rattle.text.specs.Decimal.{number_of}
 use Rattle.tip_commands.specs.Reading.{tally}
+use Rattle.tip_commands.specs.declared.faults.Fault.TheVariants.{NoNumber}
 
 -- where every word is a number, all are counted
-pub tally-all : (n m : ℕ) (ws : List (List ℕ)) → tally n ws ≡ Ok m → m ≡ n + length ws
-tally-all n m [] e = let k : n ≡ m = cc in omega arith
-tally-all n m (w ∷ ws) e =
-    elim (cases_Bool (is_some (number_of w))) [
-      | inl t ↦ let k = tally-all (n + 1) m ws (sym (cond-true _ _ _ t) ∙ e) in omega arith
-      | inr t ↦ let k = sym (cond-false _ _ _ t) ∙ e in let z : ◌≡◌ {A = ℕ} 0 1 = cc in absurd (omega arith)
-    ]
+pub tally-all : (n : ℕ) (ws : List (List ℕ)) → position (λ w. is_none (number_of w)) ws ≡ None → tally n ws ≡ Ok (n + length ws)
+tally-all n [] e = grind arith
+tally-all n (w ∷ ws) e = grind (arith, common_steps, tally-all (n + 1) ws)
+
+-- the first word that is none is told, counted from 1
+pub tally_stops : (n i : ℕ) (ws : List (List ℕ)) → position (λ w. is_none (number_of w)) ws ≡ Some i → tally n ws ≡ Err (NoNumber (n + i + 1))
+tally_stops n i [] e = grind arith
+tally_stops n i (w ∷ ws) e = grind (arith, common_steps, tally_stops (n + 1) (i - 1) ws)

@@ -4,13 +4,13 @@ use Rattle.std.specs.Str.{bytes_eq}
 use Rattle.table.specs.Keys.{ahead}
 use Rattle.table.specs.Rows.{at, put}
 use Rattle.text.specs.Decimal.{number_of}
-use Rattle.types.specs.Numbers.{height, Height, Participant}
+use Rattle.types.specs.Numbers.{height, participant, Height, Participant}
 use Rattle.tip_commands.specs.declared.commands.Command.{Command}
-use Rattle.tip_commands.specs.declared.commands.Command.TheVariants.{Signers, Tip, Wrong}
+use Rattle.tip_commands.specs.declared.commands.Command.TheVariants.{Signers, Tip}
 use Rattle.tip_commands.specs.declared.faults.Fault.{Fault}
 use Rattle.tip_commands.specs.declared.faults.Fault.TheVariants.{NoNumber, KeyCount, KeyTwice, TipWords}
 use Rattle.tip_commands.specs.Order.{Seats}
-use Rattle.tip_commands.specs.Sets.{participant, seats_of}
+use Rattle.tip_commands.specs.Sets.{seats_of}
 
 -- how many numbers the words are, after n others; the place of the first that is none
 abbrev pub tally : ℕ → List (List ℕ) → Result ℕ Fault
@@ -40,10 +40,10 @@ pub data Said : Type 0 where
   tells : Participant → Height → Said
   wrong : Fault → Said
 
-abbrev pub said : Command → Said
-said (Signers s) = signers (seats_of s)
-said (Tip k h) = tells k h
-said (Wrong e) = wrong e
+abbrev pub said : Result Command Fault → Said
+said (Ok (Signers s)) = signers (seats_of s)
+said (Ok (Tip k h)) = tells k h
+said (Err e) = wrong e
 
 -- the key and the height of a `tip` line
 abbrev pub tip_of : Option ℕ → Option ℕ → Said

@@ -1,12 +1,9 @@
 -- The keys of a set, as a table. Assumes nothing.
-use Rattle.std.specs.Prelude.{ℕ, List, map, take, Ok, Err, Result}
+use Rattle.std.specs.Prelude.{List, map, take, Ok, Err, Result}
 use Rattle.types.specs.Numbers.{Participant}
 use Rattle.tip_commands.specs.Order.{Seats}
 use Rattle.tip_commands.specs.declared.key_sets.KeySet.{KeySet}
 use Rattle.tip_commands.specs.declared.faults.Fault.{Fault}
-
-abbrev pub participant : ℕ → Participant
-participant n = record { 0 = n }
 
 abbrev pub seats_of : KeySet → Seats
 seats_of s = take s.used s.rows

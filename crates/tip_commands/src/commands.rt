@@ -1,5 +1,5 @@
 //! What a line says.
-use crate::{Fault, KeySet};
+use crate::KeySet;
 use types::{Height, Participant};
 
 /// What a line says to the signers' part of the console.
@@ -9,6 +9,4 @@ pub enum Command {
     Signers(KeySet),
     /// The signer tells that it has reached the height.
     Tip(Participant, Height),
-    /// Nothing that can be done.
-    Wrong(Fault),
 }

@@ -4,7 +4,7 @@ use types::Participant;
 mod printing;
 
 /// What is wrong with the words of a line.
-#[derive(Clone, Copy)]
+#[derive(Clone, Copy, Debug, PartialEq, Eq)]
 pub enum Fault {
     /// The word at this place after the command is no number of 64 bits.
     NoNumber(usize),

@@ -1,12 +1,13 @@
 //! A set of keys is built key by key.
-ghost use Rattle.std.specs.Prelude.{◌≡◌, ◌+◌, ◌<◌, ◌≤◌, true, cond, not, [], length, take, is_some};
+ghost use Rattle.std.specs.Prelude.{◌≡◌, ◌+◌, ◌<◌, ◌≤◌, not, [], length, take, is_some, is_ok, IfErr, OnOk, OnErr};
 ghost use Rattle.table.specs.Keys.{ahead};
 ghost use Rattle.table.specs.Rows.{at, put};
 ghost use Rattle.types.specs.Numbers.{height};
+ghost use Rattle.tip_commands.specs.declared.faults.Fault.TheVariants.{KeyTwice};
 ghost use Rattle.tip_commands.specs.Sets.{seats_of, keys_of};
 
 use super::KeySet;
-use crate::MAX_KEYS;
+use crate::{Fault, MAX_KEYS};
 use table::{Entry, Placed};
 use types::{Height, Participant};
 
@@ -35,21 +36,23 @@ impl KeySet {
         keys
     }
 
-    /// Adds the key, and says whether it was new.
-    pub(crate) fn add(&mut self, key: Participant) -> bool
+    /// Adds the key; a key that stands in the set already is refused, and nothing changes.
+    pub(crate) fn add(&mut self, key: Participant) -> Result<(), Fault>
         requires { self.old.used < 16 }
-        ensures new { result ≡ not (is_some (at ahead key (seats_of self.old))) }
-        ensures keys { result ≡ true → seats_of self.new ≡ put ahead key (height 0) (seats_of self.old) }
-        ensures used { self.new.used ≡ cond result (self.old.used + 1) self.old.used }
+        ensures new { is_ok result ≡ not (is_some (at ahead key (seats_of self.old))) }
+        ensures twice { IfErr result (λ fault. fault ≡ KeyTwice key) }
+        ensures keys { OnOk result (seats_of self.new ≡ put ahead key (height 0) (seats_of self.old)) }
+        ensures used { OnOk result (self.new.used ≡ self.old.used + 1) }
+        ensures refused { OnErr result (self.new ≡ self.old) }
     {
         let used = self.used;
-        if table::lookup(&self.rows[0..used], &key).is_some() {
-            return false;
+        if table::lookup(&self.rows[..used], &key).is_some() {
+            return Err(Fault::KeyTwice(key));
         }
-        if let Placed::Added = table::insert(&mut self.rows, used, key, Height::new(0)) {
+        if let Placed::Added = table::insert(&mut self.rows, used, key, Height::zero()) {
             self.used = used + 1;
         }
-        true
+        Ok(())
     }
 }
 
