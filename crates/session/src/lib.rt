@@ -60,7 +60,7 @@ pub fn replay(rt: &HostRuntime) -> anyhow::Result<()> {
     let mut console = Console::new();
     for line in BufReader::new(rt.alloc(), rt.stdin())?.split(rt.alloc(), b'\n') {
         let line = line?;
-        if line == b"new".as_slice() {
+        if line.as_slice() == b"new".as_slice() {
             end(rt, &console)?;
             console = Console::new();
             continue;
