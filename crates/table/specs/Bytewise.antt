@@ -7,7 +7,7 @@ use Rattle.std.specs.declared.cmp.Ordering.TheVariants.{Less, Equal, Greater}
 use Rattle.std.specs.Ordering.{is_lt, nat_cmp, is_some_and, partial_ordering_then}
 use Rattle.std.specs.Cmp.Lexicographic.{slice_cmp, slice_partial_cmp, lists_agrees}
 use Rattle.table.specs.Order.{Total}
-use Rattle.types.specs.Texts.{of_bytes}
+use Rattle.types.specs.Texts.{of_same_bytes}
 use Rattle.table.specs.Keys.{lower, earlier}
 
 never : (xs : List ℕ) → lower xs xs ≡ false
@@ -57,7 +57,7 @@ pub earlier_total : {K : Type 0} {N : ℕ} → Total (earlier {K = K} {N = N})
 earlier_total = record {
   never = λ x. lower_total.never x.bytes;
   trans = λ x y z. lower_total.trans x.bytes y.bytes z.bytes;
-  tied = λ x y p q. ap of_bytes (lower_total.tied x.bytes y.bytes p q);
+  tied = λ x y p q. of_same_bytes x y (lower_total.tied x.bytes y.bytes p q);
 }
 
 -- the derived `<` of byte strings is this order

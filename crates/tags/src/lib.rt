@@ -57,5 +57,4 @@ pub fn accepted(signer: u8, item: &Item, signature: &[u8]) -> bool
 /// The word of a signature is the tag that it carries.
 pub fn word_of_signature_stands()
     ensures { Inverse }
-{
-}
+{}

@@ -1,16 +1,18 @@
 //! Keys, digests and signatures: byte strings of a fixed length.
-ghost use Rattle.std.specs.Prelude.{◌≡◌};
-ghost use Rattle.std.specs.Str.{bytes_eq};
-ghost use Rattle.types.specs.Texts.{of_bytes};
+ghost use Rattle.std.specs.Prelude.{◌≡◌, length};
 
 use crate::kinds::{Digests, PublicKeys, Signatures};
+use std::alloc::AllocError;
 use std::marker::PhantomData;
 
 /// A string of `N` bytes, which is what `K` says.
-#[derive(Clone, Copy, Debug, PartialEq, Eq, PartialOrd, Ord)]
+#[derive(Debug, PartialEq, Eq, PartialOrd, Ord)]
+#[derive_where(Copy)]
 pub struct Bytes<K, const N: usize> {
+    /// The bytes, in their order.
     pub bytes: [u8; N],
     of: PhantomData<K>,
+    ghost sized: { length bytes ≡ N },
 }
 
 /// A signer's public key.
@@ -22,10 +24,27 @@ pub type Digest = Bytes<Digests, 32>;
 /// A signature of a height and its digest.
 pub type Signature = Bytes<Signatures, 64>;
 
+impl<K, const N: usize> Clone for Bytes<K, N> {
+    ghost use Rattle.std.specs.Prelude.{⊤};
+
+    ghost is_clone = { λ s r. r ≡ s };
+
+    ghost is_infallible = { λ _. ⊤ };
+
+    fn clone(&self) -> Result<Self, AllocError> {
+        Ok(Bytes {
+            bytes: self.bytes,
+            of: PhantomData,
+        })
+    }
+}
+
 impl<K, const N: usize> Bytes<K, N> {
+    ghost use Rattle.std.specs.Str.{bytes_eq};
+
     /// The string of these bytes.
     pub const fn new(bytes: [u8; N]) -> Self
-        ensures { result ≡ of_bytes bytes.entry }
+        ensures { result.bytes ≡ bytes.entry }
     {
         Bytes {
             bytes,
