@@ -1,7 +1,9 @@
 -- What `rank` tells of the other functions of a table. Assumes nothing.
-use Rattle.std.proofs.Common.{◌≡◌, ℕ, suc, ◌<◌, ◌≤◌, Bool, true, false, cond, List, [], ◌∷◌, length, get_or, set, Some, None, Option, sym, refl, ap, ◌∙◌, arith}
-use Rattle.std.specs.List.{insert, remove}
+use Rattle.std.proofs.Common.{◌≡◌, ℕ, suc, ◌+◌, ◌<◌, ◌≤◌, Bool, true, false, cond, not, ltb, ltb-true, ltb-false, List, [], ◌∷◌, length, get_or, set, Some, None, Option, sym, refl, ap, ◌∙◌, subst, arith}
+use Rattle.std.specs.List.{insert, remove, position, position_or_len}
+use Rattle.std.specs.Option.{unwrap_or}
 use Rattle.std.proofs.lemmas.List.{get_or_default}
+use Rattle.std.proofs.lemmas.List.Recursion.{is_position_or_len}
 use Rattle.table.specs.declared.Entry.{Entry}
 use Rattle.table.specs.Rows.{entry, onward, rank, place, at, put, without}
 
@@ -13,6 +15,28 @@ module _ {K V : Type 0} (less : K → K → Bool) (k : K) where
       go : (b : Bool) → rank less k xs ≤ length xs → cond b (suc (rank less k xs)) 0 ≤ suc (length xs)
       go true rest = omega arith
       go false rest = omega arith
+
+  -- the first place whose key is not below k is the rank; where there is none, the rank is the length
+  abbrev pub Reached : List (Entry K V) → Option ℕ → Type 0
+  Reached es (Some i) = (i ≡ rank less k es) × (i < length es)
+  Reached es None = length es ≡ rank less k es
+
+  pub reached : (es : List (Entry K V)) → Reached es (position (λ e. not (less e.key k)) es)
+  reached es = go (is_position_or_len (rank less k) (λ e. not (less e.key k)) refl (λ x xs. turned (less x.key k) (rank less k xs)) es) (ltb (rank less k es) (length es)) refl
+    where
+      turned : (b : Bool) (n : ℕ) → cond b (suc n) 0 ≡ cond (not b) 0 (1 + n)
+      turned true n = omega arith
+      turned false n = refl
+      go : rank less k es ≡ position_or_len (λ e. not (less e.key k)) es → (b : Bool) → ltb (rank less k es) (length es) ≡ b → Reached es (position (λ e. not (less e.key k)) es)
+      go r true h = rw (sym r, h) (refl, omega (arith, ltb-true))
+      go r false h = rw (sym r, h) (omega (arith, ltb-false, rank-le es))
+
+  pub reached_rank : (es : List (Entry K V)) (o : Option ℕ) → o ≡ position (λ e. not (less e.key k)) es → unwrap_or o (length es) ≡ rank less k es
+  reached_rank es o is = go o (subst (Reached es) (sym is) (reached es))
+    where
+      go : (o : Option ℕ) → Reached es o → unwrap_or o (length es) ≡ rank less k es
+      go (Some i) r = r.0
+      go None r = r
 
   -- the first key that is not below k is k
   pub record Hit (es : List (Entry K V)) (e : Entry K V) : Type 0 where
@@ -89,6 +113,20 @@ module _ {K V : Type 0} (less : K → K → Bool) (k : K) where
 
   pub miss_past : (es : List (Entry K V)) (i : ℕ) → i ≡ rank less k es → length es ≤ i → Miss es
   miss_past es i eq past = miss es (λ d in'. absurd (omega arith))
+
+  -- the first place whose key is not below k has k, or a key above it; or there is none
+  pub reached_hit : (es : List (Entry K V)) (i : ℕ) (d : Entry K V) → Some i ≡ position (λ e. not (less e.key k)) es → less k (get_or es i d).key ≡ false → place less k es ≡ Some i
+  reached_hit es i d is no_less =
+      let r = subst (Reached es) (sym is) (reached es) in
+      (hit_at es i d r.0 r.1 no_less).placed ∙ ap Some (sym r.0)
+
+  pub reached_miss : (es : List (Entry K V)) (i : ℕ) (d : Entry K V) → Some i ≡ position (λ e. not (less e.key k)) es → less k (get_or es i d).key ≡ true → place less k es ≡ None
+  reached_miss es i d is more =
+      let r = subst (Reached es) (sym is) (reached es) in
+      (miss_at es i d r.0 r.1 more).placed
+
+  pub reached_none : (es : List (Entry K V)) → None ≡ position (λ e. not (less e.key k)) es → place less k es ≡ None
+  reached_none es is = let r = subst (Reached es) (sym is) (reached es) in (miss_past es (length es) r (omega arith)).placed
 
   pub record Found (es : List (Entry K V)) (i : ℕ) : Type 0 where
     pub ranked : i ≡ rank less k es

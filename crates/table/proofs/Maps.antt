@@ -1,8 +1,7 @@
 -- A table is a finite map: what it answers after `put` and `without`, at every key. Assumes nothing.
-use Rattle.std.proofs.Common.{◌≡◌, ℕ, Bool, true, false, cond, List, [], ◌∷◌, take, Some, None, Option, sym, refl, ap, ◌∙◌, subst}
+use Rattle.std.proofs.Common.{◌≡◌, ℕ, Bool, true, false, cond, List, [], ◌∷◌, take, Some, None, Option, Ok, Err, Result, sym, refl, ap, ◌∙◌, subst}
 use Rattle.table.specs.declared.Entry.{Entry}
-use Rattle.table.specs.declared.Placed.{Placed}
-use Rattle.table.specs.declared.Placed.TheVariants.{Added, Replaced, Full}
+use Rattle.table.specs.declared.Full.{Full}
 use Rattle.table.specs.Order.{Total}
 use Rattle.table.specs.Rows.{entry, Above, Sorted, at, put, without}
 use Rattle.table.specs.Updates.{grown, shrunk, Inserted, Removed, Answers, MapInserted, MapRemoved}
@@ -110,24 +109,24 @@ module _ {K V : Type 0} {less : K → K → Bool} (o : Total less) where
 
   -- what `insert` leaves is sorted, and is the map with the new value
   module _ (k : K) (v : V) (used : ℕ) (old new : List (Entry K V)) where
-    pub inserted_sorted : (r : Placed) → Inserted less k v used old new r → Sorted less (take used old) → Sorted less (take (grown used r) new)
-    inserted_sorted Added i s = subst (Sorted less) (sym i.2) (sorted_put o k v (take used old) s)
-    inserted_sorted Replaced i s = subst (Sorted less) (sym i.1) (sorted_put o k v (take used old) s)
-    inserted_sorted Full i s = subst (λ l. Sorted less (take used l)) (sym i.2) s
+    pub inserted_sorted : (r : Result (Option V) Full) → Inserted less k v used old new r → Sorted less (take used old) → Sorted less (take (grown used r) new)
+    inserted_sorted (Ok None) i s = subst (Sorted less) (sym i.2) (sorted_put o k v (take used old) s)
+    inserted_sorted (Ok (Some w)) i s = subst (Sorted less) (sym i.1) (sorted_put o k v (take used old) s)
+    inserted_sorted (Err full) i s = subst (λ l. Sorted less (take used l)) (sym i.2) s
 
-    pub inserted-map : (r : Placed) → Inserted less k v used old new r → MapInserted less k v (take used old) (take (grown used r) new) r
-    inserted-map Added i = λ j. ap (at less j) i.2 ∙ answers_put k v (take used old) j
-    inserted-map Replaced i = λ j. ap (at less j) i.1 ∙ answers_put k v (take used old) j
-    inserted-map Full i = λ j. ap (λ l. at less j (take used l)) i.2
+    pub inserted-map : (r : Result (Option V) Full) → Inserted less k v used old new r → MapInserted less k v (take used old) (take (grown used r) new) r
+    inserted-map (Ok None) i = λ j. ap (at less j) i.2 ∙ answers_put k v (take used old) j
+    inserted-map (Ok (Some w)) i = λ j. ap (at less j) i.1 ∙ answers_put k v (take used old) j
+    inserted-map (Err full) i = λ j. ap (λ l. at less j (take used l)) i.2
 
   -- and what `remove` leaves is the map without the key
   module _ (k : K) (used : ℕ) (old new : List (Entry K V)) where
-    pub removed_sorted : (r : Bool) → Removed less k used old new r → Sorted less (take used old) → Sorted less (take (shrunk used old r) new)
-    removed_sorted true i s = subst (Sorted less) (sym i.1) (sorted_without o k (take used old) s)
-    removed_sorted false i s = subst (λ l. Sorted less (take used l)) (sym i.1) s
+    pub removed_sorted : (r : Option V) → Removed less k used old new r → Sorted less (take used old) → Sorted less (take (shrunk used old r) new)
+    removed_sorted (Some w) i s = subst (Sorted less) (sym i.1) (sorted_without o k (take used old) s)
+    removed_sorted None i s = subst (λ l. Sorted less (take used l)) (sym i.1) s
 
-    pub removed_map : (r : Bool) → Removed less k used old new r → Sorted less (take used old) → MapRemoved less k (take used old) (take (shrunk used old r) new)
-    removed_map true i s = λ j. ap (at less j) i.1 ∙ answers_without k (take used old) s j
-    removed_map false i s =
+    pub removed_map : (r : Option V) → Removed less k used old new r → Sorted less (take used old) → MapRemoved less k (take used old) (take (shrunk used old r) new)
+    removed_map (Some w) i s = λ j. ap (at less j) i.1 ∙ answers_without k (take used old) s j
+    removed_map None i s =
         let same : take used new ≡ take used old = ap (take used) i.1 in
         answers k None (take used old) (take used new) (λ j _. ap (at less j) same) (λ j _. ap (at less j) same) (ap (at less k) same ∙ i.0)

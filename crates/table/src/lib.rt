@@ -28,19 +28,14 @@ pub trait Key: Copy + Ord {
 }
 
 /// A key with its value.
-#[derive(Clone, Copy)]
+#[derive(Clone, Copy, Debug, PartialEq, Eq)]
 pub struct Entry<K, V> {
+    /// What the entry is found by.
     pub key: K,
+    /// What is kept at the key.
     pub value: V,
 }
 
-/// What a call of `insert` did.
-#[derive(Clone, Copy)]
-pub enum Placed {
-    /// The key is new, and the table has one entry more.
-    Added,
-    /// The key was there, and has the new value.
-    Replaced,
-    /// The key is new, and there is no place: nothing changed.
-    Full,
-}
+/// There is no place for one entry more; nothing changed.
+#[derive(Clone, Copy, Debug, PartialEq, Eq)]
+pub struct Full;

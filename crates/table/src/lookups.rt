@@ -1,21 +1,24 @@
 //! What a table holds: the place and the value at a key, and its two ends.
-ghost use Rattle.std.specs.Prelude.{◌≡◌, ◌<◌, ◌≤◌, length, Some, None};
+ghost use Rattle.std.specs.Prelude.{◌≡◌, ◌<◌, ◌≤◌, length, not, Some, None};
+ghost use Rattle.std.specs.List.{position as first_place};
 ghost use Rattle.table.specs.Rows.{rank, place, at, Sorted};
 ghost use Rattle.table.specs.Ends.{foremost, hindmost, Least, Greatest};
 
 use crate::{Entry, Key};
+
+/// The first place whose key is not below `key`, if there is one.
+fn ceiling<K: Key, V: Copy>(rows: &[Entry<K, V>], key: &K) -> Option<usize>
+    ensures { result ≡ first_place (λ e. not (K.less e.key key.now)) rows.now }
+{
+    rows.iter().position(|row| !row.key.before(key))
+}
 
 /// How many keys are below `key`.
 pub(crate) fn rank_of<K: Key, V: Copy>(rows: &[Entry<K, V>], key: &K) -> usize
     ensures counted { result ≡ rank K.less key.now rows.now }
     ensures within { result ≤ length rows.now }
 {
-    for (i, e) in rows.iter().enumerate() {
-        if !e.key.before(key) {
-            return i;
-        }
-    }
-    rows.len()
+    ceiling(rows, key).unwrap_or(rows.len())
 }
 
 /// The place of `key`, if it is there.
@@ -23,11 +26,11 @@ pub fn position<K: Key, V: Copy>(rows: &[Entry<K, V>], key: &K) -> Option<usize>
     ensures placed { result ≡ place K.less key.now rows.now }
     ensures within { elim result [ Some i ↦ i < length rows.now | None ↦ Unit {0} ] }
 {
-    let i = rank_of(rows, key);
-    if i < rows.len() && !key.before(&rows[i].key) {
-        Some(i)
-    } else {
+    let i = ceiling(rows, key)?;
+    if key.before(&rows[i].key) {
         None
+    } else {
+        Some(i)
     }
 }
 
@@ -35,10 +38,8 @@ pub fn position<K: Key, V: Copy>(rows: &[Entry<K, V>], key: &K) -> Option<usize>
 pub fn lookup<K: Key, V: Copy>(rows: &[Entry<K, V>], key: &K) -> Option<V>
     ensures { result ≡ at K.less key.now rows.now }
 {
-    match position(rows, key) {
-        Some(i) => Some(rows[i].value),
-        None => None,
-    }
+    let i = position(rows, key)?;
+    Some(rows[i].value)
 }
 
 /// The entry with the least key, if there is an entry.
@@ -46,10 +47,7 @@ pub fn first<K: Key, V: Copy>(rows: &[Entry<K, V>]) -> Option<Entry<K, V>>
     ensures entry { result ≡ foremost rows.now }
     ensures least { Sorted K.less rows.now → Least K.less result rows.now }
 {
-    if rows.len() == 0 {
-        return None;
-    }
-    Some(rows[0])
+    rows.first().copied()
 }
 
 /// The entry with the greatest key, if there is an entry.
@@ -57,8 +55,5 @@ pub fn last<K: Key, V: Copy>(rows: &[Entry<K, V>]) -> Option<Entry<K, V>>
     ensures entry { result ≡ hindmost rows.now }
     ensures greatest { Sorted K.less rows.now → Greatest K.less result rows.now }
 {
-    if rows.len() == 0 {
-        return None;
-    }
-    Some(rows[rows.len() - 1])
+    rows.last().copied()
 }

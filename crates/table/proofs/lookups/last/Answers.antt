@@ -3,7 +3,7 @@ use Rattle.table.proofs.Edges.{last_is, last-greatest}
 use Rattle.table.proofs.lookups.last.Goals as goal
 
 pub returns-clause-entry : goal.returns-clause-entry
-returns-clause-entry g c = search (rules, last_is)
+returns-clause-entry g c = let e = last_is c.args.rows.now in search rules
 
 pub returns-clause-greatest : goal.returns-clause-greatest
-returns-clause-greatest g c = λ s. last-greatest g.met.K.Key.ordered.order c.args.rows.now c.index-rows-rows.result (search (rules, last_is)) s
+returns-clause-greatest g c = λ s. let e = last_is c.args.rows.now in let l = last-greatest g.met.K.Key.ordered.order c.args.rows.now s in search rules

@@ -1,6 +1,5 @@
-use Rattle.std.proofs.Common.{◌+◌, ◌-◌, ◌≤◌, length, get_or, take, set, sym, arith}
+use Rattle.std.proofs.Common.{◌+◌, ◌-◌, ◌≤◌, length, get_or, take, set, Some, None, Ok, Err, sym, arith}
 use borrow.Rule.Slice.PartMut.{put_mid}
-use Rattle.table.specs.declared.Placed.TheVariants.{Added, Replaced, Full}
 use Rattle.table.specs.Rows.{entry}
 use Rattle.table.proofs.Facts.{Miss}
 use Rattle.table.proofs.Changes.{ranked, replaced, full, added, missed_at, missed_past, inserted_clamped}
@@ -16,14 +15,15 @@ returns-then-not-before g c =
     let i = c.rank_of-i.result in
     let fits : n ≤ length es = omega arith in
     let d = c.index-entries-i-then-not-before.result in
-    let new = set es i (entry (get_or es i d).key c.args.value) in
-    let left = inserted_clamped g.K.Key.less c.args.key c.args.used n es new c.min-n.ensures c.args.value Replaced
-    (replaced o c.args.key es n fits c.args.value i d c.index-entries-i.result
+    let w = c.index-entries-i-then-not-before-2.result in
+    let new = set es i (entry (get_or es i w).key c.args.value) in
+    let left = inserted_clamped g.K.Key.less c.args.key c.args.used n es new c.min-n.ensures c.args.value (Ok (Some (get_or es i d).value))
+    (replaced o c.args.key es n fits c.args.value i d w c.index-entries-i.result
     (ranked o c.args.key es n fits i c.rank_of-i.ensures.counted) (omega arith) (sym c.if-not-before.ensures)) in
     record {
       entries = left;
-      sorted = inserted_sorted o c.args.key c.args.value c.args.used es new Replaced left;
-      map = λ _. inserted-map o c.args.key c.args.value c.args.used es new Replaced left;
+      sorted = inserted_sorted o c.args.key c.args.value c.args.used es new (Ok (Some (get_or es i d).value)) left;
+      map = λ _. inserted-map o c.args.key c.args.value c.args.used es new (Ok (Some (get_or es i d).value)) left;
     }
 
 pub returns-then-n-entries : goal.returns-then-n-entries
@@ -36,11 +36,11 @@ returns-then-n-entries g c =
       | else-i-n-via-then-i-n+else-not-before w ↦ missed_at o c.args.key es n fits c.rank_of-i.result w.index-entries-i.result c.rank_of-i.ensures.counted w.if-i-n.true (sym w.if-not-before.ensures)
       | else-i-n-via-else-i-n w ↦ missed_past o c.args.key es n fits c.rank_of-i.result c.rank_of-i.ensures.counted w.if-i-n.false
     ] in
-    let left = inserted_clamped g.K.Key.less c.args.key c.args.used n es es c.min-n.ensures c.args.value Full (full o c.args.key es n fits c.args.value c.if-n-entries.true m) in
+    let left = inserted_clamped g.K.Key.less c.args.key c.args.used n es es c.min-n.ensures c.args.value (Err (record {})) (full o c.args.key es n fits c.args.value c.if-n-entries.true m) in
     record {
       entries = left;
-      sorted = inserted_sorted o c.args.key c.args.value c.args.used es es Full left;
-      map = λ _. inserted-map o c.args.key c.args.value c.args.used es es Full left;
+      sorted = inserted_sorted o c.args.key c.args.value c.args.used es es (Err (record {})) left;
+      map = λ _. inserted-map o c.args.key c.args.value c.args.used es es (Err (record {})) left;
     }
 
 pub returns : goal.returns
@@ -55,11 +55,11 @@ returns g c =
       | else-i-n-via-else-i-n w ↦ missed_past o c.args.key es n fits i c.rank_of-i.ensures.counted w.if-i-n.false
     ] in
     let new = put_mid i (n + 1 - i) (set es n (entry c.args.key c.args.value)) c.rotate_right.new.self in
-    let left = inserted_clamped g.K.Key.less c.args.key c.args.used n es new c.min-n.ensures c.args.value Added
+    let left = inserted_clamped g.K.Key.less c.args.key c.args.used n es new c.min-n.ensures c.args.value (Ok None)
     (added o c.args.key es n fits c.args.value i c.rotate_right.new.self
     (ranked o c.args.key es n fits i c.rank_of-i.ensures.counted) (omega arith) m c.rotate_right.ensures.after) in
     record {
       entries = left;
-      sorted = inserted_sorted o c.args.key c.args.value c.args.used es new Added left;
-      map = λ _. inserted-map o c.args.key c.args.value c.args.used es new Added left;
+      sorted = inserted_sorted o c.args.key c.args.value c.args.used es new (Ok None) left;
+      map = λ _. inserted-map o c.args.key c.args.value c.args.used es new (Ok None) left;
     }
