@@ -34,7 +34,7 @@ module _ {K V : Type 0} {less : K → K → Bool} (o : Total less) where
         let e : get_or (take used es) i d ≡ get_or es i d = get_or-take used es i d in' in
         let h = hit_at less k (take used es) i d eq l (ap (λ (y : Entry K V). less k y.key) e ∙ level) in
         let same : (get_or es i w).key ≡ k =
-            ap (λ (y : Entry K V). y.key) (get_or_default es i w d (omega arith) ∙ sym e) ∙ o.tied (get_or (take used es) i d).key k h.below (ap (λ (y : Entry K V). less k y.key) e ∙ level) in (
+        ap (λ (y : Entry K V). y.key) (get_or_default es i w d (omega arith) ∙ sym e) ∙ o.tied (get_or (take used es) i d).key k h.below (ap (λ (y : Entry K V). less k y.key) e ∙ level) in (
           h.valued ∙ ap (λ (y : Entry K V). Some y.value) e,
           take-set_in used es i (entry (get_or es i w).key v) ∙ ap (λ x. set (take used es) i (entry x v)) same ∙ ap (λ n. set (take used es) n (entry k v)) eq ∙ sym (h.putting v),
           drop-set-lt used es i (entry (get_or es i w).key v) in',

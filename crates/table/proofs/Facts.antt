@@ -27,6 +27,7 @@ module _ {K V : Type 0} (less : K → K → Bool) (k : K) where
       turned : (b : Bool) (n : ℕ) → cond b (suc n) 0 ≡ cond (not b) 0 (1 + n)
       turned true n = omega arith
       turned false n = refl
+
       go : rank less k es ≡ position_or_len (λ e. not (less e.key k)) es → (b : Bool) → ltb (rank less k es) (length es) ≡ b → Reached es (position (λ e. not (less e.key k)) es)
       go r true h = rw (sym r, h) (refl, omega (arith, ltb-true))
       go r false h = rw (sym r, h) (omega (arith, ltb-false, rank-le es))
@@ -160,6 +161,16 @@ module _ {K V : Type 0} (less : K → K → Bool) (k : K) where
 
   pub found_hit : (es : List (Entry K V)) (i : ℕ) (d : Entry K V) → place less k es ≡ Some i → Hit es (get_or es i d)
   found_hit es i d h = let f = found es i h in hit_at es i d f.ranked f.within (f.level d)
+
+  -- where k has no value there is nothing to take out
+  pub without-absent : (es : List (Entry K V)) → at less k es ≡ None → without less k es ≡ es
+  without-absent [] h = refl
+  without-absent (x ∷ xs) h = go (less x.key k) (less k x.key) h (without-absent xs)
+    where
+      go : (a b : Bool) → cond a (at less k xs) (cond b None (Some x.value)) ≡ None → (at less k xs ≡ None → without less k xs ≡ xs) → cond a (x ∷ without less k xs) (cond b (x ∷ xs) xs) ≡ x ∷ xs
+      go true b h more = ap (λ l. x ∷ l) (more h)
+      go false true h more = refl
+      go false false h more = absurd (let z : ◌≡◌ {A = ℕ} 0 1 = cc in omega arith)
 
   -- the value that is read at the place of k
   pub at_some : (es : List (Entry K V)) (i : ℕ) (e : Entry K V) → place less k es ≡ Some i → e ≡ get_or es i e → at less k es ≡ Some e.value

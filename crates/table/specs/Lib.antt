@@ -4,3 +4,4 @@ pub mod Order
 pub mod Rows
 pub mod Updates
 pub mod Bytewise
+pub mod Tables

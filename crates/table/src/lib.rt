@@ -6,10 +6,12 @@ ghost use Rattle.table.specs.Order.{Ordered};
 
 mod keys;
 mod lookups;
+mod tables;
 mod updates;
 
 pub use keys::Due;
 pub use lookups::{first, last, lookup, position};
+pub use tables::Table;
 pub use updates::{insert, remove};
 
 /// A type of keys with a total order, which is its `<`.

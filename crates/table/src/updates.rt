@@ -7,7 +7,12 @@ use crate::lookups::{position, rank_of};
 use crate::{Entry, Full, Key};
 
 /// Puts `value` at `key`: in place of the value there, which is handed back, or as an entry more where a place is free.
-pub fn insert<K: Key, V: Copy>(entries: &mut [Entry<K, V>], used: usize, key: K, value: V) -> Result<Option<V>, Full>
+pub fn insert<K: Key, V: Copy>(
+    entries: &mut [Entry<K, V>],
+    used: usize,
+    key: K,
+    value: V,
+) -> Result<Option<V>, Full>
     ensures entries { Inserted K.less key value used entries.old entries.new result }
     ensures sorted { Sorted K.less (take used entries.old) → Sorted K.less (take (grown used result) entries.new) }
     ensures map { Sorted K.less (take used entries.old) → MapInserted K.less key value (take used entries.old) (take (grown used result) entries.new) result }

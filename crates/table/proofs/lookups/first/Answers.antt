@@ -1,5 +1,4 @@
-use Rattle.std.proofs.Common.{rules, sym, subst}
-use Rattle.table.specs.Ends.{Least}
+use Rattle.std.proofs.Common.{rules}
 use Rattle.table.proofs.Edges.{front_is, front-least}
 use Rattle.table.proofs.lookups.first.Goals as goal
 

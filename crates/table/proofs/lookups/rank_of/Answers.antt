@@ -1,5 +1,5 @@
 use Rattle.std.proofs.Common.{rules}
-use Rattle.table.proofs.Facts.{rank-le, reached_rank}
+use Rattle.table.proofs.Facts.{reached_rank}
 use Rattle.table.proofs.lookups.rank_of.Goals as goal
 
 pub returns-clause-counted : goal.returns-clause-counted
