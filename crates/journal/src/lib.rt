@@ -14,7 +14,7 @@ mod places;
 mod stops;
 
 pub use laws::{durable_stays, read_twice, records_whole};
-pub use places::{Defect, Overrun, Place, Record};
+pub use places::{Defect, MAX_RECORD, Overrun, Place, Record};
 pub use stops::{ReadStop, Stop};
 
 /// Anything that keeps this meaning: a bound, and per section, oldest first, records of at most 1,068 bytes,

@@ -1,5 +1,8 @@
 //! Where records stand in a journal, and what may be found there.
 
+/// How many bytes the longest record has.
+pub const MAX_RECORD: usize = 1068;
+
 /// The place of a record. Places compare in reading order: by section, then by number.
 #[derive(Clone, Copy, Debug, PartialEq, Eq, PartialOrd, Ord, Hash)]
 pub struct Place {

@@ -1,12 +1,13 @@
 -- A free slot that takes a record, and where each record lies. Assumes nothing.
-use Rattle.std.proofs.Common.{◌≡◌, ℕ, suc, ◌+◌, ◌<◌, ◌≤◌, max, eqb, List, [], ◌∷◌, ◌++◌, length, get_or, take, drop, set, Some, None, sym, refl, ap, ◌∙◌, subst, inl, inr, arith, length-take}
+use Rattle.std.proofs.Common.{◌≡◌, ℕ, suc, ◌+◌, ◌<◌, ◌≤◌, max, eqb, List, [], ◌∷◌, ◌++◌, length, get_or, take, drop, set, Some, None, sym, refl, ap, ◌∙◌, subst, inl, inr, arith, length-take, fold}
 use lib.Seq.{set_split, split_at}
 use Rattle.std.proofs.lemmas.Bool.{cond-true, cond-false, cond_both, cases_Bool, eqb-true, eqb-false}
 use Rattle.journal.specs.Log.{All}
 use Rattle.slots.specs.declared.slot.Slot.{Slot}
 use Rattle.slots.specs.declared.slot.Key.{Key}
-use Rattle.slots.specs.Order.{Cell, key, before, cells, inserted, ordered, order, vacant, highest, after, first_key}
-use Rattle.slots.specs.Value.{body, grouped}
+use Rattle.std.proofs.lemmas.List.Quantifiers.{position-Some}
+use Rattle.slots.specs.Order.{Cell, key, is_free, before, cells, inserted, ordered, order, vacant, highest, after, first_key}
+use Rattle.slots.specs.Value.{body, blank, grouped}
 use Rattle.slots.proofs.Sorting.{Apart, all_map, all-ordered, ordered_middle, rising}
 use Rattle.slots.proofs.Groups.{stored, grouped-inserted}
 use Rattle.slots.proofs.Pruned.{cells_free, cells_live}
@@ -30,71 +31,72 @@ cells-below i (x ∷ xs) =
     let rest = all_map (λ c. c.at < suc i + length xs) (λ c. c.at < i + suc (length xs)) (λ c h. omega arith) (cells (suc i) xs) (cells-below (suc i) xs) in
     cond_both (eqb x.age 0) _ _ (All (λ c. c.at < i + suc (length xs))) (λ _. rest) (λ _. (omega arith, rest))
 
+-- the cells of a list with a free slot, and of the one where it takes a record
+pub record Taken (i : ℕ) (y : Slot) (xs : List Slot) : Type 0 where
+  pub front : List Cell
+  pub rest : List Cell
+  pub old : cells 0 xs ≡ front ++ rest
+  pub new : cells 0 (set xs i y) ≡ front ++ record { at = i; slot = y } ∷ rest
+  pub apart : Apart (record { at = i; slot = y }) front
+
+pub taken : (xs : List Slot) (i : ℕ) (y d : Slot) → i < length xs → (get_or xs i d).age ≡ 0 → (y.age ≡ 0 → ⊥) → Taken i y xs
+taken xs i y d h e n =
+    let P = cells 0 (take i xs) in
+    let Q = cells (suc i) (drop (suc i) xs) in
+    let len : 0 + length (take i xs) ≡ i = omega (arith, length-take i xs, h) in
+    record {
+      front = P;
+      rest = Q;
+      old =
+          ap (cells 0) (split_at xs i d h) ∙ cells-append 0 (take i xs) (get_or xs i d ∷ drop (suc i) xs) ∙ ap (λ j. P ++ cells j (get_or xs i d ∷ drop (suc i) xs)) len
+          ∙ ap (λ (l : List Cell). P ++ l) (cells_free i (get_or xs i d) (drop (suc i) xs) e);
+      new =
+          ap (cells 0) (set_split xs i y h) ∙ cells-append 0 (take i xs) (y ∷ drop (suc i) xs) ∙ ap (λ j. P ++ cells j (y ∷ drop (suc i) xs)) len
+          ∙ ap (λ (l : List Cell). P ++ l) (cells_live i y (drop (suc i) xs) n);
+      apart = all_map (λ (z : Cell). z.at < 0 + length (take i xs)) (λ z. i ≡ z.at → ⊥) (λ z q r. omega (arith, q, r, len)) P (cells-below 0 (take i xs));
+    }
+
 -- a free slot that takes a record
 pub order-set : (xs : List Slot) (i : ℕ) (y d : Slot) → i < length xs → (get_or xs i d).age ≡ 0 → (y.age ≡ 0 → ⊥) → order (set xs i y) ≡ inserted (record { at = i; slot = y }) (order xs)
 unfolding order
 order-set xs i y d h e n =
     let c : Cell = record { at = i; slot = y } in
-    let P = cells 0 (take i xs) in
-    let Q = cells (suc i) (drop (suc i) xs) in
-    let len : 0 + length (take i xs) ≡ i = omega (arith, length-take i xs, h) in
-    let new : cells 0 (set xs i y) ≡ P ++ c ∷ Q =
-    ap (cells 0) (set_split xs i y h) ∙ cells-append 0 (take i xs) (y ∷ drop (suc i) xs) ∙ ap (λ j. P ++ cells j (y ∷ drop (suc i) xs)) len ∙ ap (λ (l : List Cell). P ++ l) (cells_live i y (drop (suc i) xs) n) in
-    let old : cells 0 xs ≡ P ++ Q =
-    ap (cells 0) (split_at xs i d h) ∙ cells-append 0 (take i xs) (get_or xs i d ∷ drop (suc i) xs) ∙ ap (λ j. P ++ cells j (get_or xs i d ∷ drop (suc i) xs)) len ∙ ap (λ (l : List Cell). P ++ l) (cells_free i (get_or xs i d) (drop (suc i) xs) e) in
-    let apart : Apart c P = all_map (λ (z : Cell). z.at < 0 + length (take i xs)) (λ z. i ≡ z.at → ⊥) (λ z q r. omega (arith, q, r, len)) P (cells-below 0 (take i xs)) in
-    ap ordered new ∙ ordered_middle P c Q apart ∙ ap (λ (l : List Cell). inserted c (ordered l)) (sym old)
+    let t = taken xs i y d h e n in
+    ap ordered t.new ∙ ordered_middle t.front c t.rest t.apart ∙ ap (λ (l : List Cell). inserted c (ordered l)) (sym t.old)
 
-pub highest-least : (m : ℕ) (xs : List Slot) → m ≤ highest m xs
-unfolding highest
+-- the highest age, and at least m
+abbrev highest_from : ℕ → List Slot → ℕ
+highest_from m xs = fold (λ a x. max a x.age) m xs
+
+highest-least : (m : ℕ) (xs : List Slot) → m ≤ highest_from m xs
 highest-least m [] = omega arith
 highest-least m (x ∷ xs) = omega (arith, highest-least (max m x.age) xs)
 
-cells-aged : (m i : ℕ) (xs : List Slot) → All (λ c. c.slot.age ≤ highest m xs) (cells i xs)
-unfolding All cells highest
-cells-aged m i [] = tt
-cells-aged m i (x ∷ xs) =
-    let rest = cells-aged (max m x.age) (suc i) xs in
-    cond_both (eqb x.age 0) _ _ (All (λ c. c.slot.age ≤ highest (max m x.age) xs)) (λ _. rest) (λ _. (omega (arith, highest-least (max m x.age) xs), rest))
+cells-highest : (m i : ℕ) (xs : List Slot) → All (λ c. c.slot.age ≤ highest_from m xs) (cells i xs)
+unfolding All cells
+cells-highest m i [] = tt
+cells-highest m i (x ∷ xs) =
+    let rest = cells-highest (max m x.age) (suc i) xs in
+    cond_both (eqb x.age 0) _ _ (All (λ c. c.slot.age ≤ highest_from (max m x.age) xs)) (λ _. rest) (λ _. (omega (arith, highest-least (max m x.age) xs), rest))
+
+pub cells-aged : (xs : List Slot) (a : ℕ) → highest xs < a → All (λ c. c.slot.age < a) (cells 0 xs)
+cells-aged xs a h = all_map (λ c. c.slot.age ≤ highest xs) (λ c. c.slot.age < a) (λ c q. omega arith) (cells 0 xs) (cells-highest 0 0 xs)
 
 -- no record is older than the highest age
-pub order-aged : (xs : List Slot) (a : ℕ) → highest 0 xs < a → All (λ c. c.slot.age < a) (order xs)
+pub order-aged : (xs : List Slot) (a : ℕ) → highest xs < a → All (λ c. c.slot.age < a) (order xs)
 unfolding order
-order-aged xs a h = all_map (λ c. c.slot.age ≤ highest 0 xs) (λ c. c.slot.age < a) (λ c q. omega arith) (ordered (cells 0 xs)) (all-ordered _ (cells 0 xs) (cells-aged 0 0 xs))
+order-aged xs a h = all-ordered _ (cells 0 xs) (cells-aged xs a h)
 
 -- the value with one record more
-pub grouped-set : (xs : List Slot) (i : ℕ) (y d : Slot) → i < length xs → (get_or xs i d).age ≡ 0 → highest 0 xs < y.age →
+pub grouped-set : (xs : List Slot) (i : ℕ) (y d : Slot) → i < length xs → (get_or xs i d).age ≡ 0 → highest xs < y.age →
     grouped (order (set xs i y)) ≡ stored y.section (body y) (grouped (order xs))
 grouped-set xs i y d h e g =
     let n : y.age ≡ 0 → ⊥ = (λ z. omega (arith, g, z)) in
     ap grouped (order-set xs i y d h e n) ∙ grouped-inserted (record { at = i; slot = y }) (order xs) (rising xs) (order-aged xs y.age g)
 
--- the first free slot
-pub record Vacant (i j : ℕ) (xs : List Slot) : Type 0 where
-  pub place : ℕ
-  pub sum : j ≡ i + place
-  pub within : place < length xs
-  pub free : (d : Slot) → (get_or xs place d).age ≡ 0
-
-vacant-some : (i j : ℕ) (xs : List Slot) → vacant i xs ≡ Some j → Vacant i j xs
-vacant-some i j [] e = let z : vacant i [] ≡ None = unfold vacant in refl in let n : ◌≡◌ {A = ℕ} 0 1 = cc in absurd (omega arith)
-vacant-some i j (x ∷ xs) e =
-    elim (cases_Bool (eqb x.age 0)) [
-      | inl p ↦
-          let f : vacant i (x ∷ xs) ≡ Some i = unfold vacant in cond-true _ _ _ p in
-          let q : i ≡ j = cc in
-          record { place = 0; sum = omega arith; within = omega arith; free = λ d. eqb-true _ _ p }
-      | inr p ↦
-          let f : vacant i (x ∷ xs) ≡ vacant (suc i) xs = unfold vacant in cond-false _ _ _ p in
-          let v = vacant-some (suc i) j xs (sym f ∙ e) in
-          record { place = suc v.place; sum = omega (arith, v.sum); within = omega (arith, v.within); free = v.free }
-    ]
-
-pub vacant-at : (j : ℕ) (xs : List Slot) → vacant 0 xs ≡ Some j → (j < length xs) × ((d : Slot) → (get_or xs j d).age ≡ 0)
-vacant-at j xs e =
-    let v = vacant-some 0 j xs e in
-    let q : v.place ≡ j = omega (arith, v.sum) in
-    (omega (arith, v.within, q), λ d. ap (λ k. (get_or xs k d).age) (sym q) ∙ v.free d)
+-- the first free slot is one
+pub vacant-at : (j : ℕ) (xs : List Slot) → vacant xs ≡ Some j → (j < length xs) × ((d : Slot) → (get_or xs j d).age ≡ 0)
+vacant-at j xs e = ((position-Some is_free xs j blank e).0, λ d. eqb-true _ _ (position-Some is_free xs j d e).1)
 
 -- where the slot of a cell lies
 pub record Lies (i : ℕ) (xs : List Slot) (c : Cell) : Type 0 where

@@ -1,18 +1,22 @@
 -- No store makes an overrun, and a new record leaves the first where it is. Assumes nothing.
-use Rattle.std.proofs.Common.{◌≡◌, ℕ, zero, suc, ◌+◌, ◌<◌, ◌≤◌, max, true, false, cond, eqb, ltb, List, [], ◌∷◌, length, get_or, set, Some, None, Option, sym, refl, ap, ◌∙◌, inl, inr, arith}
-use Rattle.std.proofs.lemmas.Bool.{cond-true, cond-false, cond_both, cases_Bool, ltb-true, ltb-false, le-ltb, eq-eqb, ne_eqb, true≢false}
+use Rattle.std.proofs.Common.{◌≡◌, ℕ, zero, suc, ◌+◌, ◌<◌, ◌≤◌, Bool, true, false, cond, ◌&&◌, ◌||◌, ◌==◌, eqb, map, ◌++◌, ltb, List, [], ◌∷◌, length, get_or, set, Some, None, Option, sym, refl, ap, ◌∙◌, inl, inr, arith}
+use Rattle.std.proofs.lemmas.Bool.Decides.{nat_tests}
+use Rattle.std.specs.List.{list_any}
+use Rattle.std.proofs.lemmas.List.{map-append}
+use Rattle.std.proofs.lemmas.List.Folds.{list_any-append}
+use Rattle.std.proofs.lemmas.Bool.{or_parts, or_from, cond-true, cond-false, cond_both, cases_Bool, ltb-true, ltb-false, le-ltb, eq-eqb, ne_eqb, true≢false}
 use Rattle.journal.specs.Log.{All}
 use Rattle.journal.specs.declared.places.Defect.{Defect}
 use Rattle.journal.specs.declared.places.Defect.TheVariants.{Length, Age}
 use Rattle.slots.specs.declared.slot.Slot.{Slot}
 use Rattle.slots.specs.declared.slot.Key.{Key}
-use Rattle.slots.specs.Order.{Cell, key, key_of, inserted, order, highest, older, aged}
+use Rattle.slots.specs.Order.{Cell, key, key_of, before, cells, inserted, order, highest, aged}
 use Rattle.slots.specs.Value.{turn, defect, or_on, first_defect, over}
 use Rattle.slots.specs.Stores.{free, under, freed, swept}
-use Rattle.slots.proofs.Keys.{before_self, latest}
-use Rattle.slots.proofs.Sorting.{here, on, all_map}
-use Rattle.slots.proofs.Pruned.{keep, all_keep, stays, order-swept}
-use Rattle.slots.proofs.Added.{order-set, order-aged, highest-least}
+use Rattle.slots.proofs.Keys.{latest}
+use Rattle.slots.proofs.Sorting.{here, on, all_map, keys_are}
+use Rattle.slots.proofs.Pruned.{keep, all_keep, stays, cells-swept, order-swept}
+use Rattle.slots.proofs.Added.{taken, order-set, cells-aged, order-aged}
 
 pub defect-more : (f : Cell → Option Defect) (s n : ℕ) (c : Cell) (cs : List Cell) →
     first_defect f s n (c ∷ cs) ≡ or_on c.slot.section (turn s n c) (f c) (first_defect f c.slot.section (suc (turn s n c)) cs)
@@ -62,46 +66,55 @@ defect-inserted f c e s n (y ∷ ys) h (g, a) =
           ∙ sym (defect-more f s n y ys)
     ]
 
-older-free : (k : Key) (i : ℕ) (x : Slot) → x.age ≡ 0 → older k i x ≡ false
-older-free k i x e = cond-true _ _ _ (eq-eqb _ _ e)
+-- whether a record is of the key's age and read before it
+abbrev older : Key → Key → Bool
+older k o = (o.age == k.age) && before o k
 
-older_other : (k : Key) (i : ℕ) (x : Slot) → (x.age ≡ k.age → ⊥) → older k i x ≡ false
-older_other k i x n = cond_both (eqb x.age 0) _ _ (λ b. b ≡ false) (λ _. refl) (λ _. cond-false _ _ _ (ne_eqb _ _ n))
+-- whether one of these records is
+abbrev aged_in : Key → List Cell → Bool
+aged_in k cs = list_any (older k) (map key cs)
 
-older_self : (i : ℕ) (x : Slot) → older (key_of i x) i x ≡ false
-older_self i x = cond_both (eqb x.age 0) _ _ (λ b. b ≡ false) (λ _. refl) (λ _. cond_both (eqb x.age x.age) _ _ (λ b. b ≡ false) (λ _. before_self (key_of i x)) (λ _. refl))
+aged_is : (k : Key) (xs : List Slot) → aged k xs ≡ aged_in k (cells 0 xs)
+aged_is k xs = ap (list_any (older k)) (keys_are xs)
 
-aged-set : (k : Key) (j i : ℕ) (xs : List Slot) (y d : Slot) → i < length xs → older k (j + i) y ≡ false → older k (j + i) (get_or xs i d) ≡ false → aged k j (set xs i y) ≡ aged k j xs
-unfolding aged
-aged-set k j i [] y d h p q = absurd (omega (arith, h))
-aged-set k j zero (x ∷ xs) y d h p q =
-    let z : j + 0 ≡ j = omega arith in
-    cond-false _ _ _ (ap (λ m. older k m y) (sym z) ∙ p) ∙ sym (cond-false _ _ _ (ap (λ m. older k m x) (sym z) ∙ q))
-aged-set k j (suc i) (x ∷ xs) y d h p q =
-    let m : suc j + i ≡ j + suc i = omega arith in
-    ap (cond (older k j x) true) (aged-set k (suc j) i xs y d (omega (arith, h)) (ap (λ r. older k r y) m ∙ p) (ap (λ r. older k r (get_or xs i d)) m ∙ q))
+older_other : (k o : Key) → (o.age ≡ k.age → ⊥) → older k o ≡ false
+older_other k o n = ap (λ b. b && before o k) (ne_eqb _ _ n)
 
-aged-low : (k : Key) (m j : ℕ) (xs : List Slot) → highest m xs < k.age → aged k j xs ≡ false
-unfolding aged highest
-aged-low k m j [] h = refl
-aged-low k m j (x ∷ xs) h =
-    cond-false _ _ _ (older_other k j x (λ e. omega (arith, h, e, highest-least (max m x.age) xs))) ∙ aged-low k (max m x.age) (suc j) xs h
+older_self : (k : Key) → older k k ≡ false
+older_self k = grind (arith, nat_tests)
+
+none-aged : (k : Key) (cs : List Cell) → All (λ c. older k (key c) ≡ false) cs → aged_in k cs ≡ false
+unfolding All
+none-aged k [] a = refl
+none-aged k (c ∷ cs) (p, a) = or_from _ _ p (none-aged k cs a)
+
+aged-append : (k : Key) (p q : List Cell) → aged_in k (p ++ q) ≡ (aged_in k p || aged_in k q)
+aged-append k p q = ap (list_any (older k)) (map-append key p q) ∙ list_any-append (older k) (map key p) (map key q)
+
+-- a record that is not older in a free slot makes no difference
+aged-set : (k : Key) (i : ℕ) (xs : List Slot) (y d : Slot) → i < length xs → (get_or xs i d).age ≡ 0 → (y.age ≡ 0 → ⊥) → older k (key_of i y) ≡ false → aged k (set xs i y) ≡ aged k xs
+aged-set k i xs y d h e n p =
+    let t = taken xs i y d h e n in
+    aged_is k (set xs i y) ∙ ap (aged_in k) t.new ∙ aged-append k t.front (record { at = i; slot = y } ∷ t.rest)
+    ∙ ap (λ b. aged_in k t.front || (b || aged_in k t.rest)) p
+    ∙ sym (aged_is k xs ∙ ap (aged_in k) t.old ∙ aged-append k t.front t.rest)
+
+aged-low : (k : Key) (xs : List Slot) → highest xs < k.age → aged k xs ≡ false
+aged-low k xs h = aged_is k xs ∙ none-aged k (cells 0 xs) (all_map (λ c. c.slot.age < k.age) _ (λ c q. older_other k (key c) (λ e. omega (arith, q, e))) (cells 0 xs) (cells-aged xs k.age h))
 
 -- a new record leaves the first overrun where it is
-pub over-set : (xs : List Slot) (i : ℕ) (y d : Slot) → i < length xs → (get_or xs i d).age ≡ 0 → highest 0 xs < y.age → y.len ≤ 1068 → over (set xs i y) ≡ over xs
+pub over-set : (xs : List Slot) (i : ℕ) (y d : Slot) → i < length xs → (get_or xs i d).age ≡ 0 → highest xs < y.age → y.len ≤ 1068 → over (set xs i y) ≡ over xs
 unfolding over
 over-set xs i y d h e g short =
     let c : Cell = record { at = i; slot = y } in
     let n : y.age ≡ 0 → ⊥ = (λ z. omega (arith, g, z)) in
-    let z : 0 + i ≡ i = omega arith in
-    let gone : (k : Key) → older k (0 + i) (get_or xs i d) ≡ false = λ k. older-free k (0 + i) (get_or xs i d) e in
     let sound : defect (set xs i y) c ≡ None =
     cond-false _ _ _ (le-ltb 1068 y.len short)
-    ∙ cond-false _ _ _ (aged-set (key c) 0 i xs y d h (ap (λ m. older (key c) m y) z ∙ older_self i y) (gone (key c)) ∙ aged-low (key c) 0 0 xs g) in
+    ∙ cond-false _ _ _ (aged-set (key c) i xs y d h e n (older_self (key c)) ∙ aged-low (key c) xs g) in
     let same : All (λ b. defect (set xs i y) b ≡ defect xs b) (order xs) =
     all_map (λ b. b.slot.age < y.age) _
     (λ b lt. ap (λ t. cond (ltb 1068 b.slot.len) (Some Length) (cond t (Some Age) None))
-    (aged-set (key b) 0 i xs y d h (older_other (key b) (0 + i) y (λ q. omega (arith, lt, q))) (gone (key b))))
+    (aged-set (key b) i xs y d h e n (older_other (key b) (key c) (λ q. omega (arith, lt, q)))))
     (order xs) (order-aged xs y.age g) in
     ap (first_defect (defect (set xs i y)) 0 0) (order-set xs i y d h e n)
     ∙ defect-inserted (defect (set xs i y)) c sound 0 0 (order xs) (omega arith) (order-aged xs y.age g)
@@ -122,19 +135,17 @@ defect_each f s n (c ∷ cs) e = go (f c) refl (defect_each f c.slot.section (su
     go None q ih = (q, ih (sym (defect_pass f s n c cs q) ∙ e))
     go (Some w) q ih = let z = defect-found f s n c cs w q in let bad : ◌≡◌ {A = ℕ} 0 1 = cc in absurd (omega arith)
 
-aged-swept : (k : Key) (i s j : ℕ) (xs : List Slot) → aged k i xs ≡ false → aged k i (swept s j xs) ≡ false
-aged-swept k i s zero xs e = let w : swept s 0 xs ≡ xs = unfold swept in refl in ap (aged k i) w ∙ e
-aged-swept k i s (suc j) [] e = unfold swept aged in refl
-aged-swept k i s (suc j) (x ∷ xs) e =
-    let w : swept s (suc j) (x ∷ xs) ≡ freed s x ∷ swept s j xs = unfold swept in refl in
-    let m : aged k i (x ∷ xs) ≡ cond (older k i x) true (aged k (suc i) xs) = unfold aged in refl in
-    let m' : aged k i (freed s x ∷ swept s j xs) ≡ cond (older k i (freed s x)) true (aged k (suc i) (swept s j xs)) = unfold aged in refl in
-    elim (cases_Bool (older k i x)) [
-      | inl p ↦ absurd (true≢false (sym (m ∙ cond-true _ _ _ p) ∙ e))
-      | inr p ↦
-          let f : older k i (freed s x) ≡ false = cond_both (under s x) free x (λ y. older k i y ≡ false) (λ _. older-free k i free refl) (λ _. p) in
-          ap (aged k i) w ∙ m' ∙ cond-false _ _ _ f ∙ aged-swept k (suc i) s j xs (sym (m ∙ cond-false _ _ _ p) ∙ e)
-    ]
+aged-kept : (k : Key) (p : Cell → Bool) (cs : List Cell) → aged_in k cs ≡ false → aged_in k (keep p cs) ≡ false
+unfolding keep
+aged-kept k p [] e = refl
+aged-kept k p (c ∷ cs) e =
+    let parts = or_parts _ _ e in
+    let rest = aged-kept k p cs parts.1 in
+    cond_both (p c) _ _ (λ l. aged_in k l ≡ false) (λ _. or_from _ _ parts.0 rest) (λ _. rest)
+
+aged-swept : (k : Key) (s j : ℕ) (xs : List Slot) → aged k xs ≡ false → aged k (swept s j xs) ≡ false
+aged-swept k s j xs e =
+    aged_is k (swept s j xs) ∙ ap (aged_in k) (cells-swept s 0 j xs) ∙ aged-kept k (stays s (0 + j)) (cells 0 xs) (sym (aged_is k xs) ∙ e)
 
 -- to free slots makes no overrun
 pub over-swept : (s j : ℕ) (xs : List Slot) → over xs ≡ None → over (swept s j xs) ≡ None
@@ -145,9 +156,9 @@ over-swept s j xs e =
     elim (cases_Bool (ltb 1068 c.slot.len)) [
       | inl p ↦ let z : defect xs c ≡ Some Length = cond-true _ _ _ p in let bad : ◌≡◌ {A = ℕ} 0 1 = cc in absurd (omega arith)
       | inr p ↦
-          elim (cases_Bool (aged (key c) 0 xs)) [
+          elim (cases_Bool (aged (key c) xs)) [
             | inl t ↦ let z : defect xs c ≡ Some Age = cond-false _ _ _ p ∙ cond-true _ _ _ t in let bad : ◌≡◌ {A = ℕ} 0 1 = cc in absurd (omega arith)
-            | inr t ↦ cond-false _ _ _ p ∙ cond-false _ _ _ (aged-swept (key c) 0 s j xs t)
+            | inr t ↦ cond-false _ _ _ p ∙ cond-false _ _ _ (aged-swept (key c) s j xs t)
           ]
     ] in
     ap (first_defect (defect (swept s j xs)) 0 0) (order-swept s j xs)

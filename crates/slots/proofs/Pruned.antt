@@ -132,7 +132,7 @@ cells-freed s i (x ∷ xs) =
     ]
 
 -- so does one that is gone through in part
-cells-swept : (s i j : ℕ) (xs : List Slot) → cells i (swept s j xs) ≡ keep (stays s (i + j)) (cells i xs)
+pub cells-swept : (s i j : ℕ) (xs : List Slot) → cells i (swept s j xs) ≡ keep (stays s (i + j)) (cells i xs)
 cells-swept s i zero xs =
     let w : swept s 0 xs ≡ xs = unfold swept in refl in
     ap (cells i) w ∙ sym (keep_all (stays s (i + 0)) (cells i xs) (all_map (λ c. i ≤ c.at) _ (λ c h. cond_both (ltb c.slot.section s) (leb (i + 0) c.at) true (λ b. b ≡ true) (λ _. le-leb _ _ (omega (arith, h))) (λ _. refl)) (cells i xs) (cells-from i xs)))

@@ -1,10 +1,11 @@
 -- Records in reading order: what is added, kept and found there. Assumes nothing.
-use Rattle.std.proofs.Common.{◌≡◌, ℕ, suc, ◌<◌, ◌≤◌, true, false, cond, eqb, List, [], ◌∷◌, ◌++◌, Some, None, Option, sym, refl, ap, ◌∙◌, subst, inl, inr, append_assoc, append-nil, arith}
+use Rattle.std.proofs.Common.{◌≡◌, ℕ, suc, ◌+◌, ◌<◌, ◌≤◌, true, false, cond, eqb, List, [], ◌∷◌, ◌++◌, Some, None, Option, sym, refl, ap, ◌∙◌, subst, inl, inr, append_assoc, append-nil, add-one, map, fold, arith}
+use Rattle.std.specs.List.{filter, filter_map, cons_option, enumerate_from, reduce}
 use Rattle.std.proofs.lemmas.Bool.{cond-true, cond-false, cond_both, cases_Bool}
 use Rattle.journal.specs.Log.{All}
 use Rattle.slots.specs.declared.slot.Slot.{Slot}
 use Rattle.slots.specs.declared.slot.Key.{Key}
-use Rattle.slots.specs.Order.{Cell, key, before, cells, inserted, ordered, order, after, first_key, near, nearer, nearest}
+use Rattle.slots.specs.Order.{Cell, key, key_of, slot_key, keys, before, cells, inserted, ordered, order, after, first_key}
 use Rattle.slots.proofs.Keys.{before-trans, before_asym, before_self, before-total}
 
 pub all_map : {X : Type 0} (P Q : X → Type 0) → ((x : X) → P x → Q x) → (xs : List X) → All P xs → All Q xs
@@ -113,8 +114,17 @@ unfolding ordered All
 ordered_middle [] c q a = refl
 ordered_middle (y ∷ p) c q (n, a) = ap (inserted y) (ordered_middle p c q a) ∙ commute y c (λ e. n (sym e)) (ordered (p ++ q))
 
+-- the nearer of two keys: the one that is read first
+abbrev nearer : Option Key → Key → Option Key
+nearer None k = Some k
+nearer (Some b) k = cond (before k b) (Some k) (Some b)
+
+-- the nearest key after `from` so far, with one more
+abbrev near : Key → Option Key → Key → Option Key
+near from best k = cond (before from k) (nearer best k) best
+
 -- what comes after a key, with one record more
-pub after-inserted : (k : Key) (c : Cell) (l : List Cell) → first_key (after k (inserted c l)) ≡ near k (first_key (after k l)) (key c)
+after-inserted : (k : Key) (c : Cell) (l : List Cell) → first_key (after k (inserted c l)) ≡ near k (first_key (after k l)) (key c)
 unfolding inserted after first_key
 after-inserted k c [] = cond_both (before k (key c)) (c ∷ []) [] (λ l. first_key l ≡ cond (before k (key c)) (Some (key c)) None) (λ p. sym (cond-true _ _ _ p)) (λ p. sym (cond-false _ _ _ p))
 after-inserted k c (y ∷ ys) =
@@ -138,29 +148,69 @@ after-inserted k c (y ∷ ys) =
           ]
     ]
 
+-- the keys of the slots, the first place being i
+abbrev keys_from : ℕ → List Slot → List Key
+keys_from i xs = filter_map (λ p. slot_key p.0 p.1) (enumerate_from i xs)
+
+keys-cells : (i : ℕ) (xs : List Slot) → keys_from i xs ≡ map key (cells i xs)
+unfolding cells
+keys-cells i [] = refl
+keys-cells i (x ∷ xs) =
+    let rest : keys_from (i + 1) xs ≡ map key (cells (suc i) xs) = keys-cells (i + 1) xs ∙ ap (λ j. map key (cells j xs)) (add-one i) in
+    elim (cases_Bool (eqb x.age 0)) [
+      | inl p ↦ ap (λ o. cons_option o (keys_from (i + 1) xs)) (cond-true _ _ _ p) ∙ rest ∙ ap (map key) (sym (cond-true _ _ _ p))
+      | inr p ↦ ap (λ o. cons_option o (keys_from (i + 1) xs)) (cond-false _ _ _ p) ∙ ap (λ l. key_of i x ∷ l) rest ∙ ap (map key) (sym (cond-false _ _ _ p))
+    ]
+
+-- the keys are those of the cells
+pub keys_are : (xs : List Slot) → keys xs ≡ map key (cells 0 xs)
+keys_are xs = keys-cells 0 xs
+
+-- the nearest of the keys that are gone through is that of the first cell
 nearest-from : (k : Key) (i : ℕ) (best : Option Key) (xs : List Slot) (C : List Cell) → All (λ c. c.at < i) C → best ≡ first_key (after k (ordered C)) →
-    nearest k i best xs ≡ first_key (after k (ordered (C ++ cells i xs)))
-unfolding nearest cells
+    fold (near k) best (map key (cells i xs)) ≡ first_key (after k (ordered (C ++ cells i xs)))
+unfolding cells
 nearest-from k i best [] C a e = e ∙ ap (λ l. first_key (after k (ordered l))) (sym (append-nil C))
 nearest-from k i best (x ∷ xs) C a e =
     let c : Cell = record { at = i; slot = x } in
     elim (cases_Bool (eqb x.age 0)) [
       | inl p ↦
-          ap (λ b. nearest k (suc i) b xs) (cond-true _ _ _ p) ∙ nearest-from k (suc i) best xs C (all_map _ _ (λ y h. omega arith) C a) e
+          ap (λ l. fold (near k) best (map key l)) (cond-true _ _ _ p) ∙ nearest-from k (suc i) best xs C (all_map _ _ (λ y h. omega arith) C a) e
           ∙ ap (λ l. first_key (after k (ordered (C ++ l)))) (sym (cond-true _ (cells (suc i) xs) (c ∷ cells (suc i) xs) p))
       | inr p ↦
           let apart : Apart c C = all_map (λ (y : Cell). y.at < i) (λ y. i ≡ y.at → ⊥) (λ y h q. omega arith) C a in
-          ap (λ b. nearest k (suc i) b xs) (cond-false _ _ _ p)
+          ap (λ l. fold (near k) best (map key l)) (cond-false _ _ _ p)
           ∙ nearest-from k (suc i) (near k best (key c)) xs (C ++ c ∷ []) (all_append _ C (c ∷ []) (all_map _ _ (λ y h. omega arith) C a) (unfold All in (omega arith, tt)))
           (ap (λ b. near k b (key c)) e ∙ sym (after-inserted k c (ordered C)) ∙ ap (λ l. first_key (after k (inserted c (ordered l)))) (sym (append-nil C)) ∙ ap (λ l. first_key (after k l)) (sym (ordered_middle C c [] apart)))
           ∙ ap (λ l. first_key (after k (ordered l))) (append_assoc C (c ∷ []) (cells (suc i) xs))
           ∙ ap (λ l. first_key (after k (ordered (C ++ l)))) (sym (cond-false _ (cells (suc i) xs) (c ∷ cells (suc i) xs) p))
     ]
 
--- the nearest key is that of the record that is read next
-pub nearest_is : (k : Key) (xs : List Slot) → nearest k 0 None xs ≡ first_key (after k (order xs))
-unfolding order
-nearest_is k xs = nearest-from k 0 None xs [] (unfold All in tt) (unfold ordered after first_key in refl)
+module _ (f : Key → Key → Key) (least : (x y : Key) → f x y ≡ cond (before y x) y x) (k : Key) where
+  least-some : (b : Key) (l : List Key) → Some (fold f b (filter (before k) l)) ≡ fold (near k) (Some b) l
+  least-some b [] = refl
+  least-some b (o ∷ l) =
+      elim (cases_Bool (before k o)) [
+        | inl p ↦
+            let step : near k (Some b) o ≡ Some (f b o) = cond-true _ _ _ p ∙ cond_both (before o b) o b (λ z. cond (before o b) (Some o) (Some b) ≡ Some z) (λ q. cond-true _ _ _ q) (λ q. cond-false _ _ _ q) ∙ ap Some (sym (least b o)) in
+            ap (λ m. Some (fold f b m)) (cond-true _ _ _ p) ∙ least-some (f b o) l ∙ ap (λ z. fold (near k) z l) (sym step)
+        | inr p ↦ ap (λ m. Some (fold f b m)) (cond-false _ _ _ p) ∙ least-some b l ∙ ap (λ z. fold (near k) z l) (sym (cond-false _ _ _ p))
+      ]
+
+  least-none : (l : List Key) → reduce f (filter (before k) l) ≡ fold (near k) None l
+  least-none [] = refl
+  least-none (o ∷ l) =
+      elim (cases_Bool (before k o)) [
+        | inl p ↦ ap (reduce f) (cond-true _ _ _ p) ∙ least-some o l ∙ ap (λ z. fold (near k) z l) (sym (cond-true _ _ _ p))
+        | inr p ↦ ap (reduce f) (cond-false _ _ _ p) ∙ least-none l ∙ ap (λ z. fold (near k) z l) (sym (cond-false _ _ _ p))
+      ]
+
+  -- the least of the keys after k is that of the record that is read next
+  pub least_is : (xs : List Slot) → reduce f (filter (before k) (keys xs)) ≡ first_key (after k (order xs))
+  unfolding order
+  least_is xs =
+      least-none (keys xs) ∙ ap (fold (near k) None) (keys_are xs)
+      ∙ nearest-from k 0 None xs [] (unfold All in tt) (unfold ordered after first_key in refl)
 
 pub all_after : (P : Cell → Type 0) (k : Key) (l : List Cell) → All P l → All P (after k l)
 unfolding All after

@@ -26,7 +26,7 @@ pub store_step : (bound s : ℕ) (b : Bytes) (v : Vacancy) (y : Slot) (xs : List
 unfolding appended
 store_step bound s b v y xs r h =
     let at = vacant-at v.at xs r.place in
-    let age : highest 0 xs < y.age = omega (arith, r.age, h.age) in
+    let age : highest xs < y.age = omega (arith, r.age, h.age) in
     let e : grouped (order (set xs v.at y)) ≡ stored s b (grouped (order xs)) =
     grouped-set xs v.at y blank at.0 (at.1 blank) age ∙ ap (λ n. stored n (body y) (grouped (order xs))) h.section ∙ ap (λ (c : Bytes). stored s c (grouped (order xs))) h.whole in
     record { bound = refl; sections = subst (AllFirmer (added s b (grouped (order xs)))) (sym e) (firmer_stored s b (grouped (order xs)) (solid_grouped (order xs))) }

@@ -3,14 +3,14 @@ use Rattle.std.proofs.Common.{◌≡◌, ℕ, suc, ◌+◌, ◌<◌, ◌≤◌, 
 use Rattle.journal.specs.Log.{All}
 use Rattle.slots.specs.declared.slot.Slot.{Slot}
 use Rattle.slots.specs.declared.slot.Key.{Key}
-use Rattle.slots.specs.Order.{Cell, key, before, gate, order, after, nearest, aged}
+use Rattle.slots.specs.Order.{Cell, key, before, gate, order, after, first_key, aged}
 use Rattle.journal.specs.declared.places.Defect.{Defect}
 use Rattle.slots.specs.Value.{body, listed, at_place, turn, flaw, defect, first_defect, over}
 use Rattle.slots.proofs.Overruns.{defect_pass, defect-found, defect_none}
 use Rattle.journal.specs.Places.{past_place, first_of}
 use Rattle.std.proofs.lemmas.Bool.{cond-true}
 use Rattle.slots.proofs.Keys.{before-section}
-use Rattle.slots.proofs.Sorting.{nearest_is, rising, all_map, all_after, after_step}
+use Rattle.slots.proofs.Sorting.{rising, all_map, all_after, after_step}
 use Rattle.slots.proofs.Added.{found, found_none, Lying, order_lies, length-order, length-after}
 use Rattle.slots.specs.Value.{blank}
 use Rattle.slots.proofs.Listed.{gate_open, listed-first, listed_none, past-gate, past_on, past_later, past-here, past_none}
@@ -44,9 +44,9 @@ pub record Met (from k : Key) (xs : List Slot) : Type 0 where
   pub slot : get_or xs k.at blank ≡ cell.slot
   pub up : from.section ≤ k.section
 
-pub met : (from k : Key) (xs : List Slot) → Some k ≡ nearest from 0 None xs → Met from k xs
+pub met : (from k : Key) (xs : List Slot) → Some k ≡ first_key (after from (order xs)) → Met from k xs
 met from k xs e =
-    let f = found k (after from (order xs)) (sym (nearest_is from xs) ∙ sym e) in
+    let f = found k (after from (order xs)) (sym e) in
     let c = f.cell in
     let lies : All (Lying xs) (c ∷ f.rest) = subst (All (Lying xs)) f.split (all_after (Lying xs) from (order xs) (order_lies xs)) in
     let here : Lying xs c = all_head (Lying xs) c f.rest lies in
@@ -62,8 +62,8 @@ met from k xs e =
       up = subst (λ (z : Key). from.section ≤ z.section) f.key (before-section from (key c) (after-before from (order xs) c f.rest f.split));
     }
 
-pub none_met : (from : Key) (xs : List Slot) → None ≡ nearest from 0 None xs → after from (order xs) ≡ []
-none_met from xs e = found_none (after from (order xs)) (sym (nearest_is from xs) ∙ sym e)
+pub none_met : (from : Key) (xs : List Slot) → None ≡ first_key (after from (order xs)) → after from (order xs) ≡ []
+none_met from xs e = found_none (after from (order xs)) (sym e)
 
 -- the record that was met, as it is lent
 pub met_record : (from k : Key) (xs : List Slot) (m : Met from k xs) (n : ℕ) →
@@ -160,15 +160,15 @@ sought_start g xs e =
 met_turn : (n : ℕ) (from k : Key) (xs : List Slot) (q : Met from k xs) → turn from.section n q.cell ≡ cond (eqb from.section k.section) n 0
 met_turn n from k xs q = ap (λ (z : Key). cond (eqb from.section z.section) n 0) q.key
 
-met_defect : (from k : Key) (xs : List Slot) (q : Met from k xs) → defect xs q.cell ≡ flaw (get_or xs k.at blank).len (aged k 0 xs)
-met_defect from k xs q = ap (λ (x : Slot). flaw x.len (aged (key q.cell) 0 xs)) (sym q.slot) ∙ ap (λ (z : Key). flaw (get_or xs k.at blank).len (aged z 0 xs)) q.key
+met_defect : (from k : Key) (xs : List Slot) (q : Met from k xs) → defect xs q.cell ≡ flaw (get_or xs k.at blank).len (aged k xs)
+met_defect from k xs q = ap (λ (x : Slot). flaw x.len (aged (key q.cell) xs)) (sym q.slot) ∙ ap (λ (z : Key). flaw (get_or xs k.at blank).len (aged z xs)) q.key
 
 turn-least : (b : Bool) (n : ℕ) → cond b n 0 ≤ n
 turn-least true n = omega arith
 turn-least false n = omega arith
 
 pub sought_more : (n m : ℕ) (from k : Key) (xs : List Slot) → Sought n from xs → (q : Met from k xs) → m ≡ cond (eqb from.section k.section) n 0 →
-    None ≡ flaw (get_or xs k.at blank).len (aged k 0 xs) → Sought (m + 1) k xs
+    None ≡ flaw (get_or xs k.at blank).len (aged k xs) → Sought (m + 1) k xs
 sought_more n m from k xs s q t none =
     let e : suc (turn from.section n q.cell) ≡ m + 1 = omega (arith, t, met_turn n from k xs q) in
     record {
@@ -184,7 +184,7 @@ pub sought_room : (n m : ℕ) (from k : Key) (xs : List Slot) → Sought n from 
 sought_room n m from k xs s q t = omega (arith, s.few, t, turn-least (eqb from.section k.section) n, ap (λ (l : List Cell). length l) q.split)
 
 pub sought_found : (n m : ℕ) (from k : Key) (xs : List Slot) (w : Defect) → Sought n from xs → (q : Met from k xs) → m ≡ cond (eqb from.section k.section) n 0 →
-    Some w ≡ flaw (get_or xs k.at blank).len (aged k 0 xs) → Some (record { place = record { section = k.section; number = m }; what = w }) ≡ over xs
+    Some w ≡ flaw (get_or xs k.at blank).len (aged k xs) → Some (record { place = record { section = k.section; number = m }; what = w }) ≡ over xs
 sought_found n m from k xs w s q t some =
     let e : m ≡ turn from.section n q.cell = t ∙ sym (met_turn n from k xs q) in
     ap (λ (z : Key). Some (record { place = record { section = z.section; number = m }; what = w })) (sym q.key)

@@ -1,5 +1,6 @@
 -- The slots that hold a record, in reading order. Assumes nothing.
-use Rattle.std.specs.Prelude.{ℕ, suc, max, Bool, true, false, cond, List, [], ◌∷◌, Some, None, Option, ◌==◌, nat_lt}
+use Rattle.std.specs.Prelude.{ℕ, suc, max, Bool, cond, ◌&&◌, List, [], ◌∷◌, Some, None, Option, ◌==◌, nat_lt, fold, position}
+use Rattle.std.specs.List.{list_any, filter_map, enumerate_from}
 use Rattle.slots.specs.declared.slot.Slot.{Slot}
 use Rattle.slots.specs.declared.slot.Key.{Key}
 
@@ -8,9 +9,21 @@ pub record Cell : Type 0 where
   pub at : ℕ
   pub slot : Slot
 
+-- a slot is free where its age is 0
+abbrev pub is_free : Slot → Bool
+is_free x = x.age == 0
+
 -- what a slot is read by
 abbrev pub key_of : ℕ → Slot → Key
 key_of i x = record { section = x.section; age = x.age; at = i }
+
+-- the same of a slot that holds a record, and none of a free one
+abbrev pub slot_key : ℕ → Slot → Option Key
+slot_key i x = cond (is_free x) None (Some (key_of i x))
+
+-- the keys of a list of slots
+abbrev pub keys : List Slot → List Key
+keys xs = filter_map (λ p. slot_key p.0 p.1) (enumerate_from 0 xs)
 
 -- the key of a cell
 abbrev pub key : Cell → Key
@@ -29,7 +42,7 @@ before x y =
 -- the slots that hold a record, the first place being i; age 0 is free
 unfoldable pub cells : ℕ → List Slot → List Cell
 cells i [] = []
-cells i (x ∷ xs) = cond (x.age == 0) (cells (suc i) xs) (record { at = i; slot = x } ∷ cells (suc i) xs)
+cells i (x ∷ xs) = cond (is_free x) (cells (suc i) xs) (record { at = i; slot = x } ∷ cells (suc i) xs)
 
 -- a cell in front of the first that is read after it
 unfoldable pub inserted : Cell → List Cell → List Cell
@@ -55,35 +68,14 @@ unfoldable pub first_key : List Cell → Option Key
 first_key [] = None
 first_key (c ∷ cs) = Some (key c)
 
--- the nearer of two keys: the one that is read first
-abbrev pub nearer : Option Key → Key → Option Key
-nearer None k = Some k
-nearer (Some b) k = cond (before k b) (Some k) (Some b)
+-- the first free slot
+abbrev pub vacant : List Slot → Option ℕ
+vacant xs = position is_free xs
 
--- the nearest key after `from` so far, with one more
-abbrev pub near : Key → Option Key → Key → Option Key
-near from best k = cond (before from k) (nearer best k) best
+-- the highest age, or 0 of no slots
+abbrev pub highest : List Slot → ℕ
+highest xs = fold (λ a x. max a x.age) 0 xs
 
--- the nearest key after `from`, going through the slots
-unfoldable pub nearest : Key → ℕ → Option Key → List Slot → Option Key
-nearest from i best [] = best
-nearest from i best (x ∷ xs) = nearest from (suc i) (cond (x.age == 0) best (near from best (key_of i x))) xs
-
--- the first free slot, the first place being i
-unfoldable pub vacant : ℕ → List Slot → Option ℕ
-vacant i [] = None
-vacant i (x ∷ xs) = cond (x.age == 0) (Some i) (vacant (suc i) xs)
-
--- the highest age, and at least m
-unfoldable pub highest : ℕ → List Slot → ℕ
-highest m [] = m
-highest m (x ∷ xs) = highest (max m x.age) xs
-
--- whether a slot holds a record of the same age that is read before
-abbrev pub older : Key → ℕ → Slot → Bool
-older k i x = cond (x.age == 0) false (cond (x.age == k.age) (before (key_of i x) k) false)
-
--- whether any slot does, the first place being i
-unfoldable pub aged : Key → ℕ → List Slot → Bool
-aged k i [] = false
-aged k i (x ∷ xs) = cond (older k i x) true (aged k (suc i) xs)
+-- whether a record of the key's age is read before it
+abbrev pub aged : Key → List Slot → Bool
+aged k xs = list_any (λ o. (o.age == k.age) && before o k) (keys xs)

@@ -4,6 +4,7 @@ use Rattle.journal.specs.declared.stops.Stop.{Stop}
 use Rattle.journal.specs.declared.stops.Stop.TheVariants.{Full, Pruned, Off}
 use Rattle.slots.specs.declared.slot.Slot.{Slot}
 use Rattle.journal.specs.Log.{Bytes}
+use Rattle.slots.specs.Order.{is_free}
 use Rattle.slots.specs.Value.{body, blank}
 
 -- whether the power lasts for n stores; no number is no limit
@@ -29,7 +30,7 @@ free = record { section = 0; age = 0; len = 0; bytes = replicate 1068 0 }
 
 -- a record of a section below s
 abbrev pub under : ℕ → Slot → Bool
-under s x = cond (x.age == 0) false (nat_lt x.section s)
+under s x = cond (is_free x) false (nat_lt x.section s)
 
 -- how many stores a prune takes: one for each record below
 unfoldable pub unders : ℕ → List Slot → ℕ

@@ -15,8 +15,8 @@ NoRoom xs = (s n : ℕ) → space xs s n ≡ false
 
 -- the first free slot, and the age after the highest
 pub record Room (v : Vacancy) (xs : List Slot) : Type 0 where
-  pub place : vacant 0 xs ≡ Some v.at
-  pub age : v.age ≡ highest 0 xs + 1
+  pub place : vacant xs ≡ Some v.at
+  pub age : v.age ≡ highest xs + 1
   pub room : (s n : ℕ) → space xs s n ≡ true
 
 -- a record goes to a free slot; where it is too long, or no slot takes it, or the power goes, the slots stay as they are

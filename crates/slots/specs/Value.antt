@@ -35,7 +35,7 @@ grouped (c ∷ cs) = joined c.slot (grouped cs)
 
 -- the space rule: a slot is free, and the age after the highest is below 2^64
 unfoldable pub space : List Slot → ℕ → ℕ → Bool
-space xs s n = cond (is_some (vacant 0 xs)) (nat_lt (highest 0 xs + 1) (2 ^ 64)) false
+space xs s n = cond (is_some (vacant xs)) (nat_lt (highest xs + 1) (2 ^ 64)) false
 
 -- the log of a list of slots under a bound
 abbrev pub log_of : ℕ → List Slot → Log
@@ -60,7 +60,7 @@ flaw len again = cond (nat_lt 1068 len) (Some Length) (cond again (Some Age) Non
 
 -- the defect of a record among these slots
 abbrev pub defect : List Slot → Cell → Option Defect
-defect xs c = flaw c.slot.len (aged (key c) 0 xs)
+defect xs c = flaw c.slot.len (aged (key c) xs)
 
 -- an overrun at a place where there is a defect, else what comes after
 abbrev pub or_on : ℕ → ℕ → Option Defect → Option Overrun → Option Overrun

@@ -65,7 +65,7 @@ pub(crate) fn next_record(slots: &[Slot], after: Option<Place>) -> Option<Record
 // What is wrong with the record of a key, if anything.
 fn defect_at(slots: &[Slot], key: Key) -> Option<Defect>
     requires { key.at < length slots.now }
-    ensures { result ≡ flaw (slice_index_or slots.now key.at blank).len (aged key 0 slots.now) }
+    ensures { result ≡ flaw (slice_index_or slots.now key.at blank).len (aged key slots.now) }
 {
     if slots[key.at].len > 1068 {
         return Some(Defect::Length);

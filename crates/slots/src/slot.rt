@@ -1,56 +1,53 @@
 //! One slot of the list, and the order in which slots are read.
-ghost use Rattle.std.specs.Prelude.{◌≡◌, ◌<◌, ◌≤◌, length, take};
-ghost use Rattle.slots.specs.Order.{before, gate, key_of};
+ghost use Rattle.std.specs.Prelude.{◌≡◌, ◌≤◌, ◌==◌, length, take};
+ghost use Rattle.slots.specs.Order.{gate, is_free, slot_key};
 ghost use Rattle.slots.specs.Stores.{Holds, free, under};
 
+use journal::MAX_RECORD;
+
 /// A record of a section with its age and its length, or free where the age is 0.
-#[derive(Clone, Copy)]
+// kept: a lent medium's layout. It may hold anything, also a length past the bytes, which reading answers as an overrun.
+#[derive(Clone, Copy, Debug, PartialEq, Eq)]
 pub struct Slot {
+    /// The section that the record is in.
     pub section: u64,
+    /// How young the record is: later records have higher ages. A free slot has the age 0.
     pub age: u64,
+    /// How many of the bytes the record has.
     pub len: u16,
-    pub bytes: [u8; 1068],
+    /// The record's bytes, and others behind them.
+    pub bytes: [u8; MAX_RECORD],
 }
 
 /// What a slot is read by: its section, then its age, then its place in the list.
-#[derive(Clone, Copy)]
+#[derive(Clone, Copy, Debug, PartialEq, Eq, PartialOrd, Ord)]
 pub struct Key {
     pub section: u64,
     pub age: u64,
     pub at: usize,
 }
 
-// Puts `body` in front.
-fn copy(bytes: &mut [u8], body: &[u8])
-    requires { length body.now ≤ length bytes.old }
-    ensures { take (length body.now) bytes.new ≡ body.now }
-{
-    for (i, b) in body.iter().enumerate() {
-        bytes[i] = *b;
-    }
-}
-
 impl Slot {
     /// A free slot.
-    pub fn free() -> Slot
+    pub fn free() -> Self
         ensures { result ≡ free }
     {
-        Slot {
+        Self {
             section: 0,
             age: 0,
             len: 0,
-            bytes: [0; 1068],
+            bytes: [0; MAX_RECORD],
         }
     }
 
     // A slot that holds a record.
-    pub(crate) fn holding(section: u64, age: u64, body: &[u8]) -> Slot
-        requires { length body.now ≤ 1068 }
+    pub(crate) fn holding(section: u64, age: u64, body: &[u8]) -> Self
+        requires { length body.now ≤ MAX_RECORD }
         ensures { Holds section age body.now result }
     {
-        let mut bytes = [0; 1068];
-        copy(&mut bytes, body);
-        Slot {
+        let mut bytes = [0; MAX_RECORD];
+        bytes[..body.len()].copy_from_slice(body);
+        Self {
             section,
             age,
             len: body.len() as u16,
@@ -58,49 +55,44 @@ impl Slot {
         }
     }
 
+    // Whether no record is here.
+    pub(crate) fn is_free(&self) -> bool
+        ensures { result ≡ is_free self.now }
+    {
+        self.age == 0
+    }
+
     // Whether this is a record of a section below `section`.
     pub(crate) fn is_under(&self, section: u64) -> bool
         ensures { result ≡ under section self.now }
     {
-        self.age != 0 && self.section < section
+        !self.is_free() && self.section < section
+    }
+
+    // The key of the record here, at this place of the list.
+    pub(crate) fn key(&self, at: usize) -> Option<Key>
+        ensures { result ≡ slot_key at self.now }
+    {
+        if self.is_free() {
+            return None;
+        }
+        Some(Key {
+            section: self.section,
+            age: self.age,
+            at,
+        })
     }
 }
 
 impl Key {
     // What comes before every record of a section and later ones.
-    pub(crate) fn gate(section: u64) -> Key
+    pub(crate) fn gate(section: u64) -> Self
         ensures { result ≡ gate section }
     {
-        Key {
+        Self {
             section,
             age: 0,
             at: 0,
-        }
-    }
-
-    // The key of a slot at its place.
-    pub(crate) fn of(slot: &Slot, at: usize) -> Key
-        ensures { result ≡ key_of at slot.now }
-    {
-        Key {
-            section: slot.section,
-            age: slot.age,
-            at,
-        }
-    }
-
-    // Whether this key is read before the other.
-    pub(crate) fn before(self, other: Key) -> bool
-        ensures { result ≡ before self other }
-    {
-        if self.section == other.section {
-            if self.age == other.age {
-                self.at < other.at
-            } else {
-                self.age < other.age
-            }
-        } else {
-            self.section < other.section
         }
     }
 }

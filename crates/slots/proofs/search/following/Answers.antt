@@ -1,24 +1,19 @@
-use Rattle.std.proofs.Common.{◌+◌, drop, sym, ap, ◌∙◌}
-use Rattle.slots.specs.Order.{nearest, near}
-use Rattle.slots.specs.Value.{blank}
-use Rattle.slots.proofs.Loops.{nearest_on, nearest_skip, nearest-all}
+use Rattle.std.proofs.Common.{◌∙◌, rules, arith}
+use Rattle.std.proofs.lemmas.Iterator.{YieldsList-from_slice}
+use Rattle.std.proofs.lemmas.Iterator.Consumers.{reduce_from_yields_List, YieldsList-from_filter, YieldsList-from_filter_map, YieldsList-from_enumerate, YieldsList-at}
+use Rattle.slots.specs.Order.{before, slot_key}
+use Rattle.std.proofs.lemmas.Bool.Decides.{nat_tests}
+use Rattle.slots.proofs.Sorting.{least_is}
 use Rattle.slots.proofs.search.following.Goals as goal
-use Rattle.slots.proofs.search.following.Goals.{then-slot-ne0, else-slot-ne0}
-
-pub loop-at-preserved : goal.loop-at-preserved
-loop-at-preserved c =
-    let i = c.loop-at.at in
-    let xs = c.args.slots.now in
-    let from = c.args.from in
-    let lt = c.loop-at-test.true in
-    elim c.if-slot-ne0.branch [
-      | then-slot-ne0 w ↦
-          ap (λ b. nearest from (i + 1) b (drop (i + 1) xs)) (w.best-is ∙ w.nearer-best.ensures ∙ ap (near from c.loop-at.best) w.of.ensures)
-          ∙ sym (nearest_on from c.loop-at.best xs i blank lt w.if-slot-ne0.true) ∙ c.loop-at.invariant
-      | else-slot-ne0 w ↦
-          ap (λ b. nearest from (i + 1) b (drop (i + 1) xs)) w.best-is
-          ∙ sym (nearest_skip from c.loop-at.best xs i blank lt w.if-slot-ne0.false) ∙ c.loop-at.invariant
-    ]
 
 pub returns : goal.returns
-returns c = sym (nearest-all c.args.from c.loop-at.best c.args.slots.now c.loop-at.at c.loop-at-test.false) ∙ c.loop-at.invariant
+returns c =
+    let least = reduce_from_yields_List _ c.filter.result c.min.result c.min.ensures.ran
+    (YieldsList-from_filter _ (before c.args.from)
+    (YieldsList-at c.filter.ensures.source
+    (YieldsList-from_filter_map _ (λ p. slot_key p.0 p.1)
+    (YieldsList-at c.filter_map.ensures.source
+    (YieldsList-from_enumerate (YieldsList-at c.enumerate.ensures.source (YieldsList-from_slice c.args.slots.now (cc))) c.enumerate.ensures.count))
+    c.filter_map.ensures.closure (λ x r q k. search rules)))
+    c.filter.ensures.closure (λ x b q k. search rules)) in
+    least ∙ least_is _ (λ x y. grind (arith, nat_tests)) c.args.from c.args.slots.now

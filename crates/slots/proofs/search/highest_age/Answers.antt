@@ -1,15 +1,11 @@
-use Rattle.std.proofs.Common.{◌≡◌, ◌+◌, max, get_or, drop, sym, ap, ◌∙◌, arith}
-use Rattle.slots.specs.Order.{highest}
-use Rattle.slots.specs.Value.{blank}
-use Rattle.slots.proofs.Loops.{highest-more, highest-all}
+use Rattle.std.proofs.Common.{◌≡◌, rules, ap, ◌∙◌, unwrap_or}
+use Rattle.std.specs.Ordering.{nat_cmp, max_by_ordering}
+use Rattle.std.proofs.lemmas.Iterator.{YieldsList-from_slice, YieldsList-from_map}
+use Rattle.std.proofs.lemmas.Iterator.Consumers.{reduce_from_yields_List}
+use Rattle.std.proofs.lemmas.List.Folds.{max_of_map}
 use Rattle.slots.proofs.search.highest_age.Goals as goal
 
-pub loop-slot-preserved : goal.loop-slot-preserved
-loop-slot-preserved c =
-    let i = c.loop-slot.slot-index in
-    let xs = c.args.slots.now in
-    let e : c.max-age.result ≡ max c.loop-slot.age (get_or xs i blank).age = omega (arith, c.max-age.ensures) in
-    ap (λ m. highest m (drop (i + 1) xs)) e ∙ sym (highest-more c.loop-slot.age xs i blank c.loop-slot-test.true) ∙ c.loop-slot.invariant
-
 pub returns : goal.returns
-returns c = sym (highest-all c.loop-slot.age c.args.slots.now c.loop-slot.slot-index c.loop-slot-test.false) ∙ c.loop-slot.invariant
+returns c =
+    let most = reduce_from_yields_List (λ p z. max_by_ordering (nat_cmp p z) p z) c.map.result c.max.result c.max.ensures.ran (YieldsList-from_map _ (λ x. x.age) (YieldsList-from_slice c.args.slots.now (cc)) c.map.ensures.closure (λ x r q k. search rules)) in
+    c.unwrap_or.ensures ∙ ap (λ o. unwrap_or o 0) most ∙ max_of_map (λ x. x.age) c.args.slots.now
