@@ -1,10 +1,12 @@
 -- How the power runs down. Assumes nothing.
-use Rattle.std.proofs.Common.{◌≡◌, ℕ, zero, suc, ◌+◌, ◌-◌, ◌<◌, ◌≤◌, true, false, cond, List, [], ◌∷◌, length, get_or, take, Some, None, Option, sym, refl, ap, ◌∙◌, add-one, arith}
+use Rattle.std.proofs.Common.{◌≡◌, ℕ, zero, suc, ◌+◌, ◌-◌, ◌<◌, ◌≤◌, Bool, true, false, Ok, Err, cond, List, [], ◌∷◌, length, get_or, take, Some, None, Option, sym, refl, ap, ◌∙◌, add-one, arith}
 use Rattle.std.proofs.lemmas.List.{take_all}
 use Rattle.std.proofs.lemmas.Bool.{leb-true, leb-false, le-leb, lt-leb}
 use Rattle.slots.specs.declared.slot.Slot.{Slot}
+use Rattle.journal.specs.declared.stops.Stop.{Stop}
+use Rattle.journal.specs.declared.stops.Stop.TheVariants.{Off}
 use Rattle.slots.specs.Value.{blank}
-use Rattle.slots.specs.Stores.{lasts, spent, under, unders, freed_at, swept}
+use Rattle.slots.specs.Stores.{lasts, lit, spent, stores_for, stores_at, unders, freed_at, swept}
 use Rattle.slots.proofs.Loops.{swept_none, swept-more}
 
 pub lasts_zero : (p : Option ℕ) → true ≡ lasts 0 p
@@ -14,6 +16,15 @@ lasts_zero (Some k) = sym (le-leb 0 k (omega arith))
 pub spent_zero : (p : Option ℕ) → p ≡ spent 0 p
 spent_zero None = refl
 spent_zero (Some k) = let e : k ≡ k - 0 = omega arith in ap (λ (n : ℕ). Some n) e
+
+-- a stop of stores is that the power did not last
+pub lit-err : (b : Bool) (e : Stop) → Err e ≡ lit b → (e ≡ Off) × (b ≡ false)
+lit-err true e p = let bad : ◌≡◌ {A = ℕ} 0 1 = cc in absurd (omega arith)
+lit-err false e p = (cc, refl)
+
+pub lit_ok : (b : Bool) → Ok tt ≡ lit b → b ≡ true
+lit_ok true p = refl
+lit_ok false p = let bad : ◌≡◌ {A = ℕ} 0 1 = cc in absurd (omega arith)
 
 -- stores one after the other
 lasts-sum : (m n : ℕ) (p : Option ℕ) → lasts m p ≡ true → lasts n (spent m p) ≡ true → lasts (m + n) p ≡ true
@@ -33,7 +44,7 @@ spent-short : (m n t : ℕ) (p : Option ℕ) → lasts m p ≡ true → lasts n 
 spent-short m n t None a b h = refl
 spent-short m n t (Some k) a b h = let e : k - (m + n) ≡ k - t = omega (arith, leb-true m k a, leb-false n (k - m) b, h) in ap (λ (j : ℕ). Some j) e
 
-unders-next : (s i : ℕ) (xs : List Slot) → i < length xs → unders s (take (suc i) xs) ≡ unders s (take i xs) + cond (under s (get_or xs i blank)) 1 0
+unders-next : (s i : ℕ) (xs : List Slot) → i < length xs → unders s (take (suc i) xs) ≡ unders s (take i xs) + stores_at s i xs
 unfolding unders
 unders-next s i [] h = absurd (omega (arith, h))
 unders-next s zero (x ∷ xs) h = omega arith
@@ -64,18 +75,18 @@ swept-start s p xs =
 
 module _ (s i : ℕ) (p : Option ℕ) (xs ys : List Slot) (q : Option ℕ) (w : Swept s i p xs ys q) (h : i < length xs) where
   tick : ℕ
-  tick = cond (under s (get_or xs i blank)) 1 0
+  tick = stores_at s i xs
 
-  same : cond (under s (get_or ys i blank)) 1 0 ≡ tick
+  same : stores_at s i ys ≡ tick
   unfolding tick
-  same = ap (λ (x : Slot). cond (under s x) 1 0) (ap (λ (l : List Slot). get_or l i blank) w.slots ∙ get_or-swept s i xs h)
+  same = ap (stores_for s) (ap (λ (l : List Slot). get_or l i blank) w.slots ∙ get_or-swept s i xs h)
 
   next : unders s (take (i + 1) xs) ≡ unders s (take i xs) + tick
   unfolding tick
   next = ap (λ j. unders s (take j xs)) (add-one i) ∙ unders-next s i xs h
 
   -- one slot more
-  pub swept_on : (zs : List Slot) (r : Option ℕ) → zs ≡ freed_at s i ys → true ≡ lasts (cond (under s (get_or ys i blank)) 1 0) q → r ≡ spent (cond (under s (get_or ys i blank)) 1 0) q → Swept s (i + 1) p xs zs r
+  pub swept_on : (zs : List Slot) (r : Option ℕ) → zs ≡ freed_at s i ys → true ≡ lasts (stores_at s i ys) q → r ≡ spent (stores_at s i ys) q → Swept s (i + 1) p xs zs r
   swept_on zs r e l k =
       let b : lasts tick (spent (unders s (take i xs)) p) ≡ true = sym (l ∙ ap (λ n. lasts n q) same ∙ ap (lasts tick) w.power) in
       record {
@@ -88,12 +99,12 @@ module _ (s i : ℕ) (p : Option ℕ) (xs ys : List Slot) (q : Option ℕ) (w : 
   within = omega (arith, next, unders-front s (i + 1) xs)
 
   -- the power did not last
-  pub swept-short : false ≡ lasts (cond (under s (get_or ys i blank)) 1 0) q → false ≡ lasts (unders s xs) p
+  pub swept-short : false ≡ lasts (stores_at s i ys) q → false ≡ lasts (unders s xs) p
   swept-short l =
       let b : lasts tick (spent (unders s (take i xs)) p) ≡ false = sym (l ∙ ap (λ n. lasts n q) same ∙ ap (lasts tick) w.power) in
       sym (lasts-short (unders s (take i xs)) tick (unders s xs) p w.lit b within)
 
-  pub swept_dark : (r : Option ℕ) → false ≡ lasts (cond (under s (get_or ys i blank)) 1 0) q → r ≡ spent (cond (under s (get_or ys i blank)) 1 0) q → r ≡ spent (unders s xs) p
+  pub swept_dark : (r : Option ℕ) → false ≡ lasts (stores_at s i ys) q → r ≡ spent (stores_at s i ys) q → r ≡ spent (unders s xs) p
   swept_dark r l k =
       let b : lasts tick (spent (unders s (take i xs)) p) ≡ false = sym (l ∙ ap (λ n. lasts n q) same ∙ ap (lasts tick) w.power) in
       k ∙ ap (λ n. spent n q) same ∙ ap (spent tick) w.power ∙ spent-sum (unders s (take i xs)) tick p ∙ spent-short (unders s (take i xs)) tick (unders s xs) p w.lit b within

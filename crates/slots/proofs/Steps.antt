@@ -1,17 +1,19 @@
 -- What the stores of an operation do to the value. Assumes nothing.
-use Rattle.std.proofs.Common.{◌≡◌, ℕ, ◌<◌, ◌≤◌, max, true, false, ◌&&◌, leb, List, [], ◌∷◌, map, length, set, None, Ok, Err, Result, sym, refl, ap, ◌∙◌, subst, inl, inr, arith}
+use Rattle.std.proofs.Common.{◌≡◌, ℕ, ◌<◌, ◌≤◌, max, true, false, ◌&&◌, leb, List, [], ◌∷◌, map, length, set, cond, Bool, is_ok, MatchOption, Some, None, Option, Ok, Err, Result, sym, refl, ap, ◌∙◌, subst, inl, inr, arith}
 use Rattle.std.proofs.lemmas.Bool.{and_from, and_left, and_right, le-leb, lt-leb, le-ltb, cond-false}
 use Rattle.journal.specs.Log.{Bytes, appended, added, from, pruned, AllFirmer, Firmer}
 use Rattle.journal.specs.Cuts.{AllLeft, Cut}
 use Rattle.journal.proofs.Firm.{firmer_refl}
 use Rattle.journal.proofs.Lost.{lost_cut}
 use Rattle.slots.specs.declared.slot.Slot.{Slot}
-use Rattle.slots.specs.declared.vacancies.Vacancy.{Vacancy}
+use Rattle.slots.specs.declared.medium.Vacancy.{Vacancy}
 use Rattle.slots.specs.Order.{order, highest}
 use Rattle.slots.specs.Value.{body, blank, grouped, log_of, space, over}
-use Rattle.slots.specs.Stores.{Holds, freed, swept, Sweeping}
-use Rattle.slots.specs.Vacancies.{NoRoom, Room, Adding, bound_after}
-use Rattle.journal.specs.Steps.{Disk, Appended, Steady}
+use Rattle.slots.specs.Stores.{lit, Holds, freed, swept, Sweeping}
+use Rattle.std.specs.Result.{result_ok}
+use Rattle.std.specs.Option.{ok_or}
+use Rattle.slots.specs.Vacancies.{NoRoom, Room}
+use Rattle.journal.specs.Steps.{Disk, Appended, Pruning, Steady}
 use Rattle.journal.specs.declared.stops.Stop.{Stop}
 use Rattle.journal.specs.declared.stops.Stop.TheVariants.{Full, Pruned, Off}
 use Rattle.slots.proofs.Sorting.{rising}
@@ -19,6 +21,10 @@ use Rattle.slots.proofs.Groups.{stored, firmer_stored, solid_grouped, formed_log
 use Rattle.slots.proofs.Added.{grouped-set, vacant-at}
 use Rattle.slots.proofs.Overruns.{over-set, over-swept}
 use Rattle.slots.proofs.Pruned.{keep, stays, order-freed, order-swept, grouped-from, grouped-left}
+
+-- the value, with its space rule
+abbrev pub disk : ℕ → List Slot → Disk
+disk bound xs = record { log = log_of bound xs; room = space xs; flushes = true }
 
 -- a record in a free slot is the value with it appended
 pub store_step : (bound s : ℕ) (b : Bytes) (v : Vacancy) (y : Slot) (xs : List Slot) → Room v xs → Holds s v.age b y →
@@ -80,21 +86,34 @@ swept_step bound s xs ys (j, w) =
       sections = subst (λ l. AllLeft s (grouped (order xs)) (grouped l)) (sym o) (grouped-left s (stays s j) (λ c h. cond-false _ _ _ (le-ltb c.slot.section s h)) (order xs) (rising xs));
     }
 
--- the value, with its space rule
-abbrev pub disk : ℕ → List Slot → Disk
-disk bound xs = record { log = log_of bound xs; room = space xs; flushes = true }
+-- where a prune stopped, it was for the power
+pub stopped_step : (bound s : ℕ) (e : Stop) (xs ys : List Slot) → e ≡ Off → Sweeping s false xs ys → Pruning (disk bound xs) s (Err e) (disk 0 ys)
+stopped_step bound s e xs ys o w = subst (λ x. Pruning (disk bound xs) s (Err x) (disk 0 ys)) (sym o) (swept_step bound s xs ys w)
 
-pub adding_step : (bound s : ℕ) (b : Bytes) (r : Result (Unit {0}) Stop) (xs ys : List Slot) → bound ≤ s → Adding s b r xs ys → Appended (disk bound xs) s b r (disk (bound_after r bound) ys)
-adding_step bound s b (Ok _) xs ys h (l, (v, y, room, holds, e)) =
+-- a record goes to a free slot
+pub stored_step : (bound s : ℕ) (b : Bytes) (v : Vacancy) (y : Slot) (xs ys : List Slot) → bound ≤ s → length b ≤ 1068 → Room v xs → Holds s v.age b y → ys ≡ set xs v.at y →
+    Appended (disk bound xs) s b (Ok tt) (disk bound ys)
+stored_step bound s b v y xs ys h l room holds e =
     (h, fits_yes xs s (length b) l (room.room s (length b)), subst (λ (zs : List Slot). Firmer (appended s b (log_of bound xs)) (log_of bound zs)) (sym e) (store_step bound s b v y xs room holds))
-adding_step bound s b (Err Full) xs ys h (inl l, e) = (h, fits_long xs s (length b) l, ap (disk bound) e)
-adding_step bound s b (Err Full) xs ys h (inr n, e) = (h, fits_full xs s (length b) n, ap (disk bound) e)
-adding_step bound s b (Err Pruned) xs ys h z = absurd z
-adding_step bound s b (Err Off) xs ys h (l, room, e) =
-    (h, fits_yes xs s (length b) l (room s (length b)), subst (λ (zs : List Slot). Cut 0 (appended s b (log_of bound xs)) (log_of 0 zs)) (sym e) (lost_step bound s b xs))
 
-pub adding_over : (s : ℕ) (b : Bytes) (r : Result (Unit {0}) Stop) (xs ys : List Slot) → Adding s b r xs ys → Steady r (over xs) (over ys)
-adding_over s b (Ok _) xs ys (l, (v, y, room, holds, e)) = ap over e ∙ store-over s b v y xs room holds l
-adding_over s b (Err Full) xs ys (_, e) = ap over e
-adding_over s b (Err Pruned) xs ys z = absurd z
-adding_over s b (Err Off) xs ys (_, _, e) = λ q. ap over e ∙ q
+-- the power went before it did
+pub dark_step : (bound s : ℕ) (b : Bytes) (e : Stop) (v : Vacancy) (xs ys : List Slot) → e ≡ Off → bound ≤ s → length b ≤ 1068 → Room v xs → ys ≡ xs → Appended (disk bound xs) s b (Err e) (disk 0 ys)
+dark_step bound s b e v xs ys o h l room same =
+    subst (λ x. Appended (disk bound xs) s b (Err x) (disk 0 ys)) (sym o)
+    (h, fits_yes xs s (length b) l (room.room s (length b)), subst (λ (zs : List Slot). Cut 0 (appended s b (log_of bound xs)) (log_of 0 zs)) (sym same) (lost_step bound s b xs))
+
+pub dark-over : (e : Stop) (xs ys : List Slot) → e ≡ Off → ys ≡ xs → Steady (Err e) (over xs) (over ys)
+dark-over e xs ys o same = subst (λ x. Steady (Err x) (over xs) (over ys)) (sym o) (λ q. ap over same ∙ q)
+
+-- no slot takes it
+pub full_step : (bound s : ℕ) (b : Bytes) (e : Stop) (xs : List Slot) → e ≡ Full → bound ≤ s → NoRoom xs → Appended (disk bound xs) s b (Err e) (disk bound xs)
+full_step bound s b e xs f h n = subst (λ x. Appended (disk bound xs) s b (Err x) (disk bound xs)) (sym f) (h, fits_full xs s (length b) n, refl)
+
+-- a free slot was found
+pub free-some : (xs : List Slot) (o : Option Vacancy) (r : Result Vacancy Stop) (v : Vacancy) → MatchOption o (NoRoom xs) (λ w. Room w xs) → o ≡ result_ok r → r ≡ Ok v → Room v xs
+free-some xs o r v m e f = subst (λ p. MatchOption p (NoRoom xs) (λ w. Room w xs)) (e ∙ ap result_ok f) m
+
+-- or none was
+pub free-none : (xs : List Slot) (o : Option Vacancy) (r : Result Vacancy Stop) (e : Stop) → MatchOption o (NoRoom xs) (λ w. Room w xs) → r ≡ ok_or o Full → r ≡ Err e → (e ≡ Full) × NoRoom xs
+free-none xs None r e m p q = (cc, m)
+free-none xs (Some v) r e m p q = let bad : ◌≡◌ {A = ℕ} 0 1 = cc in absurd (omega arith)

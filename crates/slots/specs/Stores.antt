@@ -17,6 +17,11 @@ abbrev pub spent : ℕ → Option ℕ → Option ℕ
 spent n None = None
 spent n (Some k) = Some (k - n)
 
+-- the answer of stores for which the power lasted, or did not
+abbrev pub lit : Bool → Result (Unit {0}) Stop
+lit true = Ok tt
+lit false = Err Off
+
 -- an operation of n stores: the power went exactly where it does not last for them
 abbrev pub Powered : ℕ → Result (Unit {0}) Stop → Option ℕ → Option ℕ → Type 0
 Powered n (Ok _) p q = (lasts n p ≡ true) × (q ≡ spent n p)
@@ -32,10 +37,18 @@ free = record { section = 0; age = 0; len = 0; bytes = replicate 1068 0 }
 abbrev pub under : ℕ → Slot → Bool
 under s x = cond (is_free x) false (nat_lt x.section s)
 
+-- how many stores it takes to prune one slot: one where a record below is in it
+abbrev pub stores_for : ℕ → Slot → ℕ
+stores_for s x = cond (under s x) 1 0
+
+-- the same of the slot at a place of the list
+abbrev pub stores_at : ℕ → ℕ → List Slot → ℕ
+stores_at s i xs = stores_for s (slice_index_or xs i blank)
+
 -- how many stores a prune takes: one for each record below
 unfoldable pub unders : ℕ → List Slot → ℕ
 unders s [] = 0
-unders s (x ∷ xs) = cond (under s x) 1 0 + unders s xs
+unders s (x ∷ xs) = stores_for s x + unders s xs
 
 -- a slot after the sections below s are pruned
 abbrev pub freed : ℕ → Slot → Slot

@@ -41,9 +41,21 @@ space xs s n = cond (is_some (vacant xs)) (nat_lt (highest xs + 1) (2 ^ 64)) fal
 abbrev pub log_of : ℕ → List Slot → Log
 log_of bound xs = record { bound = bound; sections = grouped (order xs) }
 
+-- the slots of a slot journal
+abbrev pub slots_of : SlotJournal → List Slot
+slots_of j = j.medium.slots.now
+
+-- how many stores its power still lasts, or no limit
+abbrev pub power_of : SlotJournal → Option ℕ
+power_of j = j.medium.power
+
+-- its bound
+abbrev pub bound_of : SlotJournal → ℕ
+bound_of j = j.bound
+
 -- the value of a slot journal, with its space rule; it holds nothing back
 abbrev pub disk_of : SlotJournal → Disk
-disk_of j = record { log = log_of j.bound j.slots.now; room = space j.slots.now; flushes = true }
+disk_of j = record { log = log_of (bound_of j) (slots_of j); room = space (slots_of j); flushes = true }
 
 -- the number of a record, n where it is of section s, the section before it
 abbrev pub turn : ℕ → ℕ → Cell → ℕ
@@ -78,4 +90,4 @@ over xs = first_defect (defect xs) 0 0 (order xs)
 
 -- the first overrun of a slot journal
 abbrev pub overrun_of : SlotJournal → Option Overrun
-overrun_of j = over j.slots.now
+overrun_of j = over (slots_of j)

@@ -7,60 +7,55 @@ ghost use Rattle.journal.specs.Laws.{Told};
 ghost use Rattle.journal.specs.Log.{Formed};
 ghost use Rattle.journal.specs.Steps.{Appended, Synced, AllSynced, Pruning, Reading, Steady, Clean};
 ghost use Rattle.slots.specs.Stores.{Powered, unders};
-ghost use Rattle.slots.specs.Value.{disk_of, overrun_of};
+ghost use Rattle.slots.specs.Value.{slots_of, power_of, bound_of, disk_of, overrun_of};
 
+use crate::medium::Medium;
 use crate::reading::{first_overrun, next_record};
-use crate::stores::{add, bound_after, free_below};
-use journal::{Journal, Overrun, Place, ReadStop, Record, Stop};
+use journal::{Journal, MAX_RECORD, Overrun, Place, ReadStop, Record, Stop};
 
+mod medium;
 mod reading;
 mod search;
 mod slot;
-mod stores;
-mod vacancies;
 
 pub use slot::Slot;
 
 /// A journal over lent slots. Each record is one store, and so is each record that prune frees.
 #[derive(Drop)]
 pub struct SlotJournal<'a> {
-    // where the records lie
-    slots: &'a mut [Slot],
+    // where the records lie, and the power for stores
+    medium: Medium<'a>,
     // no record is added to a section below it
     bound: u64,
-    // how many stores the power still lasts, or no limit
-    power: Option<u64>,
 }
 
 impl SlotJournal<'_> {
     /// The journal in `slots`, whatever they hold, with no bound and with power for ever.
     pub fn new<'a>(slots: &'a mut [Slot]) -> SlotJournal<'a>
-        ensures bound { result.bound ≡ 0 }
-        ensures power { result.power ≡ None }
-        ensures slots { result.slots.now ≡ slots.old }
+        ensures bound { bound_of result ≡ 0 }
+        ensures power { power_of result ≡ None }
+        ensures slots { slots_of result ≡ slots.old }
     {
         SlotJournal {
-            slots,
+            medium: Medium { slots, power: None },
             bound: 0,
-            power: None,
         }
     }
 
     /// Lets the power last for so many stores, or for ever.
     pub fn set_power(&mut self, stores: Option<u64>)
-        ensures power { self.new.power ≡ stores }
+        ensures power { power_of self.new ≡ stores }
         ensures disk { disk_of self.new ≡ disk_of self.old }
         ensures overrun { overrun_of self.new ≡ overrun_of self.old }
     {
-        self.power = stores;
+        self.medium.power = stores;
     }
 
     // The first record with a defect.
     fn first_overrun(&self) -> Option<Overrun>
         ensures { result ≡ overrun_of self.now }
     {
-        let slots = &*self.slots;
-        first_overrun(slots)
+        first_overrun(self.medium.slots)
     }
 }
 
@@ -72,22 +67,27 @@ impl Journal for SlotJournal<'_> {
     fn append(&mut self, section: u64, bytes: &[u8]) -> Result<(), Stop>
         ensures step { Appended (disk_of self.old) section bytes.now result (disk_of self.new) }
         ensures overruns { Steady result (overrun_of self.old) (overrun_of self.new) }
-        ensures power { Powered 1 result self.old.power self.new.power }
+        ensures power { Powered 1 result (power_of self.old) (power_of self.new) }
     {
         if section < self.bound {
             return Err(Stop::Pruned);
         }
-        let mut power = self.power;
-        let answer = add(self.slots, &mut power, section, bytes);
-        self.power = power;
-        self.bound = bound_after(&answer, self.bound);
-        answer
+        if bytes.len() > MAX_RECORD {
+            return Err(Stop::Full);
+        }
+        let free = self.medium.vacancy().ok_or(Stop::Full)?;
+        let slot = Slot::holding(section, free.age, bytes);
+        if let Err(stop) = self.medium.store(free.at, slot) {
+            self.bound = 0;
+            return Err(stop);
+        }
+        Ok(())
     }
 
     fn sync(&mut self, section: u64) -> Result<(), Stop>
         ensures step { Synced (disk_of self.old) section result (disk_of self.new) }
         ensures overruns { Steady result (overrun_of self.old) (overrun_of self.new) }
-        ensures power { Powered 0 result self.old.power self.new.power }
+        ensures power { Powered 0 result (power_of self.old) (power_of self.new) }
     {
         Ok(()) // what is stored is durable
     }
@@ -95,7 +95,7 @@ impl Journal for SlotJournal<'_> {
     fn sync_all(&mut self) -> Result<(), Stop>
         ensures step { AllSynced (disk_of self.old) result (disk_of self.new) }
         ensures overruns { Steady result (overrun_of self.old) (overrun_of self.new) }
-        ensures power { Powered 0 result self.old.power self.new.power }
+        ensures power { Powered 0 result (power_of self.old) (power_of self.new) }
     {
         Ok(()) // so is every section
     }
@@ -103,14 +103,11 @@ impl Journal for SlotJournal<'_> {
     fn prune(&mut self, section: u64) -> Result<(), Stop>
         ensures step { Pruning (disk_of self.old) section result (disk_of self.new) }
         ensures overruns { Clean (overrun_of self.old) (overrun_of self.new) }
-        ensures power { Powered (unders section self.old.slots.now) result self.old.power self.new.power }
+        ensures power { Powered (unders section (slots_of self.old)) result (power_of self.old) (power_of self.new) }
     {
-        let mut power = self.power;
-        let freed = free_below(self.slots, &mut power, section);
-        self.power = power;
-        if !freed {
+        if let Err(stop) = self.medium.free_below(section) {
             self.bound = 0;
-            return Err(Stop::Off);
+            return Err(stop);
         }
         self.bound = self.bound.max(section);
         Ok(())
@@ -119,7 +116,7 @@ impl Journal for SlotJournal<'_> {
     fn read(&mut self) -> Result<(), ReadStop>
         ensures step { Reading (disk_of self.old) (overrun_of self.old) result (disk_of self.new) (overrun_of self.new) }
         ensures formed { Formed (disk_of self.new).log }
-        ensures power { Told result × (self.new.power ≡ self.old.power) }
+        ensures power { Told result × (power_of self.new ≡ power_of self.old) }
     {
         match self.first_overrun() {
             Some(overrun) => Err(ReadStop::Overrun(overrun)),
@@ -128,14 +125,13 @@ impl Journal for SlotJournal<'_> {
     }
 
     fn next(&self, after: Option<Place>) -> Option<Record<'_>> {
-        let slots = &*self.slots;
-        next_record(slots, after)
+        next_record(self.medium.slots, after)
     }
 
     fn cut(&mut self)
         ensures step { Cut 0 (disk_of self.old).log (disk_of self.new).log }
         ensures overruns { Clean (overrun_of self.old) (overrun_of self.new) }
-        ensures power { self.new.power ≡ self.old.power }
+        ensures power { power_of self.new ≡ power_of self.old }
     {
         self.bound = 0; // it was in memory only
     }

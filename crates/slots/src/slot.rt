@@ -41,6 +41,7 @@ impl Slot {
     }
 
     // A slot that holds a record.
+    #[tactic(auto, unfolding(crate::specs::Value::body))]
     pub(crate) fn holding(section: u64, age: u64, body: &[u8]) -> Self
         requires { length body.now ≤ MAX_RECORD }
         ensures { Holds section age body.now result }

@@ -8,4 +8,4 @@ use Rattle.slots.proofs.SlotJournalJournal.cut.Goals as goal
 pub returns : goal.returns
 returns c =
     let j = c.args.self.now in
-    record { step = solid_cut 0 (log_of j.bound j.slots.now) (solid_grouped (order j.slots.now)) (formed_log j.bound j.slots.now); overruns = λ e. e; power = refl }
+    record { step = solid_cut 0 (log_of j.bound j.medium.slots.now) (solid_grouped (order j.medium.slots.now)) (formed_log j.bound j.medium.slots.now); overruns = λ e. e; power = refl }

@@ -9,4 +9,4 @@ use Rattle.slots.proofs.SlotJournalJournal.sync.Goals as goal
 pub returns : goal.returns
 returns c =
     let j = c.args.self.now in
-    record { step = (refl, refl, solid_synced c.args.section (log_of j.bound j.slots.now) (solid_grouped (order j.slots.now))); overruns = refl; power = (sym (lasts_zero j.power), spent_zero j.power) }
+    record { step = (refl, refl, solid_synced c.args.section (log_of j.bound j.medium.slots.now) (solid_grouped (order j.medium.slots.now))); overruns = refl; power = (sym (lasts_zero j.medium.power), spent_zero j.medium.power) }
