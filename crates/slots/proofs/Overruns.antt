@@ -1,10 +1,10 @@
 -- No store makes an overrun, and a new record leaves the first where it is. Assumes nothing.
-use Rattle.std.proofs.Common.{◌≡◌, ℕ, zero, suc, ◌+◌, ◌<◌, ◌≤◌, Bool, true, false, cond, ◌&&◌, ◌||◌, ◌==◌, eqb, map, ◌++◌, ltb, List, [], ◌∷◌, length, get_or, set, Some, None, Option, sym, refl, ap, ◌∙◌, inl, inr, arith}
+use Rattle.std.proofs.Common.{◌≡◌, ℕ, suc, ◌+◌, ◌<◌, ◌≤◌, Bool, false, cond, ◌&&◌, ◌||◌, ◌==◌, map, ◌++◌, ltb, List, [], ◌∷◌, length, get_or, set, Some, None, Option, sym, refl, ap, ◌∙◌, inl, inr, arith}
 use Rattle.std.proofs.lemmas.Bool.Decides.{nat_tests}
 use Rattle.std.specs.List.{list_any}
 use Rattle.std.proofs.lemmas.List.{map-append}
 use Rattle.std.proofs.lemmas.List.Folds.{list_any-append}
-use Rattle.std.proofs.lemmas.Bool.{or_parts, or_from, cond-true, cond-false, cond_both, cases_Bool, ltb-true, ltb-false, le-ltb, eq-eqb, ne_eqb, true≢false}
+use Rattle.std.proofs.lemmas.Bool.{or_parts, or_from, cond-true, cond-false, cond_both, cases_Bool, ltb-true, ltb-false, le-ltb, ne_eqb}
 use Rattle.journal.specs.Log.{All}
 use Rattle.journal.specs.declared.places.Defect.{Defect}
 use Rattle.journal.specs.declared.places.Defect.TheVariants.{Length, Age}
@@ -12,7 +12,7 @@ use Rattle.slots.specs.declared.slot.Slot.{Slot}
 use Rattle.slots.specs.declared.slot.Key.{Key}
 use Rattle.slots.specs.Order.{Cell, key, key_of, before, cells, inserted, order, highest, aged}
 use Rattle.slots.specs.Value.{turn, defect, or_on, first_defect, over}
-use Rattle.slots.specs.Stores.{free, under, freed, swept}
+use Rattle.slots.specs.Stores.{swept}
 use Rattle.slots.proofs.Keys.{latest}
 use Rattle.slots.proofs.Sorting.{here, on, all_map, keys_are}
 use Rattle.slots.proofs.Pruned.{keep, all_keep, stays, cells-swept, order-swept}

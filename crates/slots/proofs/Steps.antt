@@ -1,5 +1,5 @@
 -- What the stores of an operation do to the value. Assumes nothing.
-use Rattle.std.proofs.Common.{◌≡◌, ℕ, ◌<◌, ◌≤◌, max, true, false, ◌&&◌, leb, List, [], ◌∷◌, map, length, set, cond, Bool, is_ok, MatchOption, Some, None, Option, Ok, Err, Result, sym, refl, ap, ◌∙◌, subst, inl, inr, arith}
+use Rattle.std.proofs.Common.{◌≡◌, ℕ, ◌<◌, ◌≤◌, max, true, false, ◌&&◌, leb, List, [], ◌∷◌, map, length, set, MatchOption, Some, None, Option, Ok, Err, Result, sym, refl, ap, ◌∙◌, subst, arith}
 use Rattle.std.proofs.lemmas.Bool.{and_from, and_left, and_right, le-leb, lt-leb, le-ltb, cond-false}
 use Rattle.journal.specs.Log.{Bytes, appended, added, from, pruned, AllFirmer, Firmer}
 use Rattle.journal.specs.Cuts.{AllLeft, Cut}
@@ -9,13 +9,13 @@ use Rattle.slots.specs.declared.slot.Slot.{Slot}
 use Rattle.slots.specs.declared.medium.Vacancy.{Vacancy}
 use Rattle.slots.specs.Order.{order, highest}
 use Rattle.slots.specs.Value.{body, blank, grouped, log_of, space, over}
-use Rattle.slots.specs.Stores.{lit, Holds, freed, swept, Sweeping}
+use Rattle.slots.specs.Stores.{Holds, freed, swept, Sweeping}
 use Rattle.std.specs.Result.{result_ok}
 use Rattle.std.specs.Option.{ok_or}
 use Rattle.slots.specs.Vacancies.{NoRoom, Room}
 use Rattle.journal.specs.Steps.{Disk, Appended, Pruning, Steady}
 use Rattle.journal.specs.declared.stops.Stop.{Stop}
-use Rattle.journal.specs.declared.stops.Stop.TheVariants.{Full, Pruned, Off}
+use Rattle.journal.specs.declared.stops.Stop.TheVariants.{Full, Off}
 use Rattle.slots.proofs.Sorting.{rising}
 use Rattle.slots.proofs.Groups.{stored, firmer_stored, solid_grouped, formed_log}
 use Rattle.slots.proofs.Added.{grouped-set, vacant-at}

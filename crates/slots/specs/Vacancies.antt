@@ -1,13 +1,9 @@
 -- Where the next record goes. Assumes nothing.
-use Rattle.std.specs.Prelude.{◌≡◌, ℕ, ◌+◌, ◌<◌, ◌≤◌, true, false, ◌⊎◌, List, length, Some, Ok, Err, Result, slice_set}
-use Rattle.journal.specs.Log.{Bytes}
-use Rattle.journal.specs.declared.stops.Stop.{Stop}
-use Rattle.journal.specs.declared.stops.Stop.TheVariants.{Full, Pruned, Off}
+use Rattle.std.specs.Prelude.{◌≡◌, ℕ, ◌+◌, true, false, List, Some}
 use Rattle.slots.specs.declared.slot.Slot.{Slot}
 use Rattle.slots.specs.declared.medium.Vacancy.{Vacancy}
 use Rattle.slots.specs.Order.{vacant, highest}
 use Rattle.slots.specs.Value.{space}
-use Rattle.slots.specs.Stores.{Holds}
 
 -- the space rule has no room for a record of any length in any section
 abbrev pub NoRoom : List Slot → Type 0

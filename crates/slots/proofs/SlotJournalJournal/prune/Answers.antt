@@ -1,4 +1,4 @@
-use Rattle.std.proofs.Common.{sym, ap, ◌∙◌, is_ok, subst, arith}
+use Rattle.std.proofs.Common.{sym, ◌∙◌, is_ok, subst, arith}
 use Rattle.slots.specs.Stores.{Sweeping}
 use Rattle.slots.proofs.Powers.{lit-err}
 use Rattle.slots.proofs.Steps.{freed_step, freed-over, stopped_step, swept-over}

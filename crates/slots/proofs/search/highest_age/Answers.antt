@@ -1,4 +1,4 @@
-use Rattle.std.proofs.Common.{◌≡◌, rules, ap, ◌∙◌, unwrap_or}
+use Rattle.std.proofs.Common.{rules, ap, ◌∙◌, unwrap_or}
 use Rattle.std.specs.Ordering.{nat_cmp, max_by_ordering}
 use Rattle.std.proofs.lemmas.Iterator.{YieldsList-from_slice, YieldsList-from_map}
 use Rattle.std.proofs.lemmas.Iterator.Consumers.{reduce_from_yields_List}
