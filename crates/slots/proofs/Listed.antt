@@ -1,8 +1,8 @@
 -- Records with their numbers, and the one that is read next. Assumes nothing.
-use Rattle.std.proofs.Common.{◌≡◌, ℕ, suc, ◌<◌, ◌≤◌, Bool, true, false, cond, eqb, ltb, ◌⊎◌, List, [], ◌∷◌, ◌++◌, Some, None, sym, refl, ap, ◌∙◌, inl, inr, arith}
-use Rattle.std.proofs.lemmas.Bool.{cond-true, cond-false, cases_Bool, ltb-true, ltb-false, eqb-true, eqb-false, le-ltb, lt-ltb, eq-eqb, ne_eqb}
+use Rattle.std.proofs.Common.{◌≡◌, ℕ, suc, ◌<◌, ◌≤◌, Bool, true, false, cond, eqb, ltb, ◌⊎◌, List, [], ◌∷◌, ◌++◌, sym, refl, ap, ◌∙◌, inl, inr, arith}
+use Rattle.std.proofs.lemmas.Bool.{cond-true, cond-false, cases_Bool, ltb-true, ltb-false, eqb-true, eqb-false, le-ltb, lt-ltb, ne_eqb}
 use Rattle.journal.specs.Log.{All, Section, Placed, all_of, numbered, reading}
-use Rattle.journal.specs.Places.{past, past_place, first_of}
+use Rattle.journal.specs.Places.{past, past_place}
 use Rattle.slots.specs.declared.slot.Slot.{Slot}
 use Rattle.slots.specs.Order.{Cell, key, before, gate, after}
 use Rattle.slots.specs.Value.{body, joined, grouped, turn, listed}
@@ -73,21 +73,9 @@ past-lower : (s n : ℕ) (x : Placed) → x.section < s → past s n x ≡ false
 unfolding past
 past-lower s n x h = cond-false _ _ _ (le-ltb s x.section (omega (arith, h))) ∙ cond-false _ _ _ (ne_eqb s x.section (λ e. omega (arith, h, e)))
 
-past_higher : (s n : ℕ) (x : Placed) → s < x.section → past s n x ≡ true
-unfolding past
-past_higher s n x h = cond-true _ _ _ (lt-ltb s x.section h)
-
-past-number : (s n : ℕ) (x : Placed) → s ≡ x.section → past s n x ≡ ltb n x.number
-unfolding past
-past-number s n x e = cond-false _ _ _ (le-ltb s x.section (omega (arith, e))) ∙ cond-true _ _ _ (eq-eqb s x.section e)
-
 skip : (s n : ℕ) (x : Placed) (xs : List Placed) → past s n x ≡ false → past_place s n (x ∷ xs) ≡ past_place s n xs
 unfolding past_place
 skip s n x xs h = cond-false _ _ _ h
-
-stop : (s n : ℕ) (x : Placed) (xs : List Placed) → past s n x ≡ true → past_place s n (x ∷ xs) ≡ x ∷ xs
-unfolding past_place
-stop s n x xs h = cond-true _ _ _ h
 
 listed_more : (s n : ℕ) (c : Cell) (cs : List Cell) → listed s n (c ∷ cs) ≡ record { section = c.slot.section; number = turn s n c; bytes = body c.slot } ∷ listed c.slot.section (suc (turn s n c)) cs
 unfolding listed
@@ -138,41 +126,3 @@ past-gate s n a b (c ∷ cs) (v, live) h =
     reset : (b ≡ 0) ⊎ (a < s) → s ≤ c.slot.section → turn a b c ≡ 0
     reset (inl z) q = ap (λ k. turn a k c) z ∙ turn_zero a c
     reset (inr z) q = turn_other a b c (λ e. omega (arith, z, q, e))
-
--- one record on, in the section of the place
-pub past_on : (s n m : ℕ) (c : Cell) (cs : List Cell) → c.slot.section ≡ s → m ≤ n → past_place s n (listed s m (c ∷ cs)) ≡ past_place s n (listed s (suc m) cs)
-past_on s n m c cs e h =
-    let t : turn s m c ≡ m = cond-true _ _ _ (eq-eqb s c.slot.section (sym e)) in
-    ap (past_place s n) (listed_more s m c cs ∙ ap (λ k. record { section = c.slot.section; number = k; bytes = body c.slot } ∷ listed c.slot.section (suc k) cs) t)
-    ∙ skip s n _ _ (past-number s n (record { section = c.slot.section; number = m; bytes = body c.slot }) (sym e) ∙ le-ltb n m h)
-    ∙ ap (λ k. past_place s n (listed k (suc m) cs)) e
-
-first_is : (x : Placed) (xs : List Placed) → first_of (x ∷ xs) ≡ Some x
-unfolding first_of
-first_is x xs = refl
-
--- a record of a later section is the one
-pub past_later : (s n m : ℕ) (c : Cell) (cs : List Cell) → s < c.slot.section →
-    first_of (past_place s n (listed s m (c ∷ cs))) ≡ Some (record { section = c.slot.section; number = 0; bytes = body c.slot })
-past_later s n m c cs h =
-    let t : turn s m c ≡ 0 = turn_other s m c (λ e. omega (arith, h, e)) in
-    ap (λ (l : List Placed). first_of (past_place s n l)) (listed_more s m c cs ∙ ap (λ k. record { section = c.slot.section; number = k; bytes = body c.slot } ∷ listed c.slot.section (suc k) cs) t)
-    ∙ ap first_of (stop s n _ _ (past_higher s n (record { section = c.slot.section; number = 0; bytes = body c.slot }) h)) ∙ first_is _ _
-
--- so is one of the section with a higher number
-pub past-here : (s n m : ℕ) (c : Cell) (cs : List Cell) → c.slot.section ≡ s → n < m →
-    first_of (past_place s n (listed s m (c ∷ cs))) ≡ Some (record { section = c.slot.section; number = m; bytes = body c.slot })
-past-here s n m c cs e h =
-    let t : turn s m c ≡ m = cond-true _ _ _ (eq-eqb s c.slot.section (sym e)) in
-    ap (λ (l : List Placed). first_of (past_place s n l)) (listed_more s m c cs ∙ ap (λ k. record { section = c.slot.section; number = k; bytes = body c.slot } ∷ listed c.slot.section (suc k) cs) t)
-    ∙ ap first_of (stop s n _ _ (past-number s n (record { section = c.slot.section; number = m; bytes = body c.slot }) (sym e) ∙ lt-ltb n m h)) ∙ first_is _ _
-
--- the very first record
-pub listed-first : (c : Cell) (cs : List Cell) → first_of (listed 0 0 (c ∷ cs)) ≡ Some (record { section = c.slot.section; number = 0; bytes = body c.slot })
-listed-first c cs = ap first_of (listed_more 0 0 c cs) ∙ first_is _ _ ∙ ap (λ k. Some (record { section = c.slot.section; number = k; bytes = body c.slot })) (turn_zero 0 c)
-
-pub past_none : (s n m : ℕ) → first_of (past_place s n (listed s m [])) ≡ None
-past_none s n m = unfold listed past_place first_of in refl
-
-pub listed_none : first_of (listed 0 0 []) ≡ None
-listed_none = unfold listed first_of in refl

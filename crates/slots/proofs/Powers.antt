@@ -1,6 +1,5 @@
 -- How the power runs down. Assumes nothing.
 use Rattle.std.proofs.Common.{◌≡◌, ℕ, zero, suc, ◌+◌, ◌-◌, ◌<◌, ◌≤◌, Bool, true, false, Ok, Err, List, [], ◌∷◌, length, get_or, take, Some, None, Option, sym, refl, ap, ◌∙◌, add-one, arith}
-use Rattle.std.proofs.lemmas.List.{take_all}
 use Rattle.std.proofs.lemmas.Bool.{leb-true, leb-false, le-leb, lt-leb}
 use Rattle.slots.specs.declared.slot.Slot.{Slot}
 use Rattle.journal.specs.declared.stops.Stop.{Stop}
@@ -108,9 +107,3 @@ module _ (s i : ℕ) (p : Option ℕ) (xs ys : List Slot) (q : Option ℕ) (w : 
   swept_dark r l k =
       let b : lasts tick (spent (unders s (take i xs)) p) ≡ false = sym (l ∙ ap (λ n. lasts n q) same ∙ ap (lasts tick) w.power) in
       k ∙ ap (λ n. spent n q) same ∙ ap (spent tick) w.power ∙ spent-sum (unders s (take i xs)) tick p ∙ spent-short (unders s (take i xs)) tick (unders s xs) p w.lit b within
-
--- all have been gone through
-pub swept-end : (s i : ℕ) (p : Option ℕ) (xs ys : List Slot) (q : Option ℕ) → Swept s i p xs ys q → length xs ≤ i → (true ≡ lasts (unders s xs) p) × (q ≡ spent (unders s xs) p)
-swept-end s i p xs ys q w h =
-    let e : unders s (take i xs) ≡ unders s xs = ap (unders s) (take_all i xs h) in
-    (sym w.lit ∙ ap (λ n. lasts n p) e, w.power ∙ ap (λ n. spent n p) e)

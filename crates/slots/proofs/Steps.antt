@@ -1,6 +1,6 @@
 -- What the stores of an operation do to the value. Assumes nothing.
 use Rattle.std.proofs.Common.{◌≡◌, ℕ, ◌<◌, ◌≤◌, max, true, false, ◌&&◌, leb, List, [], ◌∷◌, map, length, set, MatchOption, Some, None, Option, Ok, Err, Result, sym, refl, ap, ◌∙◌, subst, arith}
-use Rattle.std.proofs.lemmas.Bool.{and_from, and_left, and_right, le-leb, lt-leb, le-ltb, cond-false}
+use Rattle.std.proofs.lemmas.Bool.{and_from, and_right, le-leb, le-ltb, cond-false}
 use Rattle.journal.specs.Log.{Bytes, appended, added, from, pruned, AllFirmer, Firmer}
 use Rattle.journal.specs.Cuts.{AllLeft, Cut}
 use Rattle.journal.proofs.Firm.{firmer_refl}
@@ -13,7 +13,7 @@ use Rattle.slots.specs.Stores.{Holds, freed, swept, Sweeping}
 use Rattle.std.specs.Result.{result_ok}
 use Rattle.std.specs.Option.{ok_or}
 use Rattle.slots.specs.Vacancies.{NoRoom, Room}
-use Rattle.journal.specs.Steps.{Disk, Appended, Pruning, Steady}
+use Rattle.journal.specs.Steps.{Disk, Appended, Pruning}
 use Rattle.journal.specs.declared.stops.Stop.{Stop}
 use Rattle.journal.specs.declared.stops.Stop.TheVariants.{Full, Off}
 use Rattle.slots.proofs.Sorting.{rising}
@@ -51,9 +51,6 @@ lost_step bound s b xs = lost_cut 0 s b (log_of bound xs) (solid_grouped (order 
 
 pub fits_yes : (xs : List Slot) (s n : ℕ) → n ≤ 1068 → space xs s n ≡ true → (leb n 1068 && space xs s n) ≡ true
 fits_yes xs s n h e = and_from _ _ (le-leb n 1068 h) e
-
-pub fits_long : (xs : List Slot) (s n : ℕ) → 1068 < n → (leb n 1068 && space xs s n) ≡ false
-fits_long xs s n h = and_left _ _ (lt-leb n 1068 h)
 
 pub fits_full : (xs : List Slot) (s n : ℕ) → NoRoom xs → (leb n 1068 && space xs s n) ≡ false
 fits_full xs s n h = and_right (leb n 1068) (space xs s n) (h s n)
@@ -101,9 +98,6 @@ pub dark_step : (bound s : ℕ) (b : Bytes) (e : Stop) (v : Vacancy) (xs ys : Li
 dark_step bound s b e v xs ys o h l room same =
     subst (λ x. Appended (disk bound xs) s b (Err x) (disk 0 ys)) (sym o)
     (h, fits_yes xs s (length b) l (room.room s (length b)), subst (λ (zs : List Slot). Cut 0 (appended s b (log_of bound xs)) (log_of 0 zs)) (sym same) (lost_step bound s b xs))
-
-pub dark-over : (e : Stop) (xs ys : List Slot) → e ≡ Off → ys ≡ xs → Steady (Err e) (over xs) (over ys)
-dark-over e xs ys o same = subst (λ x. Steady (Err x) (over xs) (over ys)) (sym o) (λ q. ap over same ∙ q)
 
 -- no slot takes it
 pub full_step : (bound s : ℕ) (b : Bytes) (e : Stop) (xs : List Slot) → e ≡ Full → bound ≤ s → NoRoom xs → Appended (disk bound xs) s b (Err e) (disk bound xs)

@@ -1,19 +1,23 @@
 -- One step of going through the records in reading order. Assumes nothing.
-use Rattle.std.proofs.Common.{◌≡◌, ℕ, suc, ◌+◌, ◌<◌, ◌≤◌, Bool, true, false, cond, eqb, List, [], ◌∷◌, length, get_or, Some, None, sym, refl, ap, ◌∙◌, subst, inl, arith}
-use Rattle.journal.specs.Log.{All}
+use Rattle.std.proofs.Common.{◌≡◌, ℕ, suc, ◌+◌, ◌<◌, ◌≤◌, Bool, true, false, cond, eqb, List, [], ◌∷◌, map, length, get_or, Some, None, Option, sym, refl, ap, ◌∙◌, subst, inl, inr, arith}
+use Rattle.journal.specs.Log.{All, Placed}
 use Rattle.slots.specs.declared.slot.Slot.{Slot}
 use Rattle.slots.specs.declared.slot.Key.{Key}
-use Rattle.slots.specs.Order.{Cell, key, before, gate, order, after, first_key, aged}
+use Rattle.slots.specs.Order.{Cell, key, before, gate, order, after, first_key}
 use Rattle.journal.specs.declared.places.Defect.{Defect}
-use Rattle.slots.specs.Value.{body, listed, at_place, turn, flaw, defect, first_defect, over}
-use Rattle.slots.proofs.Overruns.{defect_pass, defect-found, defect_none}
-use Rattle.journal.specs.Places.{past_place, first_of}
-use Rattle.std.proofs.lemmas.Bool.{cond-true}
+use Rattle.journal.specs.declared.places.Overrun.{Overrun}
+use Rattle.std.specs.Option.{option_map}
+use Rattle.std.specs.List.{find}
+use Rattle.slots.specs.declared.entries.Entries.{Entries}
+use Rattle.slots.specs.Entries.{Turn, turns, placed_turn, left, HasRoom}
+use Rattle.slots.specs.Value.{listed, turn, defect, or_on, first_defect, over}
+use Rattle.journal.specs.Places.{past, past_place, first_of}
+use Rattle.std.proofs.lemmas.Bool.{cond-true, cond-false, cases_Bool}
 use Rattle.slots.proofs.Keys.{before-section}
 use Rattle.slots.proofs.Sorting.{rising, all_map, all_after, after_step}
 use Rattle.slots.proofs.Added.{found, found_none, Lying, order_lies, length-order, length-after}
 use Rattle.slots.specs.Value.{blank}
-use Rattle.slots.proofs.Listed.{gate_open, listed-first, listed_none, past-gate, past_on, past_later, past-here, past_none}
+use Rattle.slots.proofs.Listed.{gate_open, past-gate}
 
 after-before : (k : Key) (l : List Cell) (c : Cell) (rest : List Cell) → after k l ≡ c ∷ rest → before k (key c) ≡ true
 after-before k [] c rest e = let z : after k [] ≡ [] = unfold after in refl in let n : ◌≡◌ {A = ℕ} 0 1 = cc in absurd (omega arith)
@@ -65,13 +69,6 @@ met from k xs e =
 pub none_met : (from : Key) (xs : List Slot) → None ≡ first_key (after from (order xs)) → after from (order xs) ≡ []
 none_met from xs e = found_none (after from (order xs)) (sym e)
 
--- the record that was met, as it is lent
-pub met_record : (from k : Key) (xs : List Slot) (m : Met from k xs) (n : ℕ) →
-    at_place k.section n xs k.at ≡ record { section = m.cell.slot.section; number = n; bytes = body m.cell.slot }
-met_record from k xs m n =
-    ap (λ (z : Key). record { section = z.section; number = n; bytes = body (get_or xs k.at blank) }) (sym m.key)
-    ∙ ap (λ (x : Slot). record { section = m.cell.slot.section; number = n; bytes = body x }) m.slot
-
 live : (xs : List Slot) → All (λ c. c.slot.age ≡ 0 → ⊥) (order xs)
 live xs = all_map (Lying xs) _ (λ c l. l.live) (order xs) (order_lies xs)
 
@@ -80,117 +77,129 @@ unfolding All after
 gate_zero [] a = refl
 gate_zero (c ∷ cs) (v, a) = cond-true _ _ _ (gate_open 0 c v (omega arith))
 
--- the very first record
-pub first_met : (g k : Key) (xs : List Slot) → g ≡ gate 0 → (m : Met g k xs) → Some (at_place k.section 0 xs k.at) ≡ first_of (listed 0 0 (order xs))
-first_met g k xs e m =
-    let s : order xs ≡ m.cell ∷ m.rest = sym (ap (λ (z : Key). after z (order xs)) e ∙ gate_zero (order xs) (live xs)) ∙ m.split in
-    ap Some (met_record g k xs m 0) ∙ sym (ap (λ (l : List Cell). first_of (listed 0 0 l)) s ∙ listed-first m.cell m.rest)
+-- records with their numbers, one after the other
+turns-more : (s n : ℕ) (c : Cell) (cs : List Cell) → turns s n (c ∷ cs) ≡ record { number = turn s n c; cell = c } ∷ turns c.slot.section (suc (turn s n c)) cs
+unfolding turns
+turns-more s n c cs = refl
 
-pub first_missed : (g : Key) (xs : List Slot) → g ≡ gate 0 → after g (order xs) ≡ [] → None ≡ first_of (listed 0 0 (order xs))
-first_missed g xs e n =
-    let s : order xs ≡ [] = sym (ap (λ (z : Key). after z (order xs)) e ∙ gate_zero (order xs) (live xs)) ∙ n in
-    sym (ap (λ (l : List Cell). first_of (listed 0 0 l)) s ∙ listed_none)
+turns_none : (s n : ℕ) → turns s n [] ≡ []
+unfolding turns
+turns_none s n = refl
 
--- going on past a place: m records of its section were read, and what is left comes after `from`
-pub record Past (s n m : ℕ) (from : Key) (xs : List Slot) : Type 0 where
-  pub at : from.section ≡ s
-  pub left : past_place s n (listed 0 0 (order xs)) ≡ past_place s n (listed s m (after from (order xs)))
-  pub few : m + length (after from (order xs)) ≤ length xs
+length-turns : (s n : ℕ) (cs : List Cell) → length (turns s n cs) ≡ length cs
+unfolding turns
+length-turns s n [] = refl
+length-turns s n (c ∷ cs) = ap suc (length-turns c.slot.section (suc (turn s n c)) cs)
 
-pub past-start : (s n : ℕ) (g : Key) (xs : List Slot) → g ≡ gate s → Past s n 0 g xs
-past-start s n g xs e =
-    record {
-      at = ap (λ (z : Key). z.section) e;
-      left = past-gate s n 0 0 (order xs) (live xs) (inl refl) ∙ ap (λ (z : Key). past_place s n (listed s 0 (after z (order xs)))) (sym e);
-      few = omega (arith, length-after g (order xs), length-order xs);
-    }
+listed-turns : (s n : ℕ) (cs : List Cell) → listed s n cs ≡ map placed_turn (turns s n cs)
+unfolding listed turns
+listed-turns s n [] = refl
+listed-turns s n (c ∷ cs) = ap (λ (l : List Placed). placed_turn (record { number = turn s n c; cell = c }) ∷ l) (listed-turns c.slot.section (suc (turn s n c)) cs)
 
-pub past_more : (s n m : ℕ) (from k : Key) (xs : List Slot) → Past s n m from xs → Met from k xs → k.section ≤ s → m ≤ n → Past s n (m + 1) k xs
-past_more s n m from k xs p q h l =
-    let here : k.section ≡ s = omega (arith, h, q.up, p.at) in
-    let e : q.cell.slot.section ≡ s = ap (λ (z : Key). z.section) q.key ∙ here in
-    let z : suc m ≡ m + 1 = omega arith in
-    record {
-      at = here;
-      left =
-          p.left ∙ ap (λ (l : List Cell). past_place s n (listed s m l)) q.split ∙ past_on s n m q.cell q.rest e l
-          ∙ ap (λ (j : ℕ). past_place s n (listed s j q.rest)) z ∙ ap (λ (l : List Cell). past_place s n (listed s (m + 1) l)) (sym q.onward);
-      few = omega (arith, p.few, ap (λ (l : List Cell). length l) q.split, ap (λ (l : List Cell). length l) q.onward);
-    }
+-- the record of a key that was met, and what is left
+pub met_left : (from k : Key) (n m : ℕ) (xs : List Slot) → Met from k xs → m ≡ cond (eqb from.section k.section) n 0 →
+    turns from.section n (after from (order xs)) ≡ record { number = m; cell = record { at = k.at; slot = get_or xs k.at blank } } ∷ turns k.section (m + 1) (after k (order xs))
+met_left from k n m xs q e =
+    let t : turn from.section n q.cell ≡ m = ap (λ (z : Key). cond (eqb from.section z.section) n 0) q.key ∙ sym e in
+    let one : suc m ≡ m + 1 = omega arith in
+    ap (turns from.section n) q.split ∙ turns-more from.section n q.cell q.rest
+    ∙ ap (λ (j : ℕ). record { number = j; cell = q.cell } ∷ turns q.cell.slot.section (suc j) q.rest) t
+    ∙ ap (λ (z : Key). record { number = m; cell = q.cell } ∷ turns z.section (suc m) q.rest) q.key
+    ∙ ap (λ (j : ℕ). record { number = m; cell = q.cell } ∷ turns k.section j q.rest) one
+    ∙ ap (λ (l : List Cell). record { number = m; cell = q.cell } ∷ turns k.section (m + 1) l) (sym q.onward)
+    ∙ ap (λ (z : Key). record { number = m; cell = record { at = z.at; slot = q.cell.slot } } ∷ turns k.section (m + 1) (after k (order xs))) q.key
+    ∙ ap (λ (x : Slot). record { number = m; cell = record { at = k.at; slot = x } } ∷ turns k.section (m + 1) (after k (order xs))) (sym q.slot)
 
-pub past_room : (s n m : ℕ) (from k : Key) (xs : List Slot) → Past s n m from xs → Met from k xs → m < length xs
-past_room s n m from k xs p q = omega (arith, p.few, ap (λ (l : List Cell). length l) q.split)
-
--- each step comes nearer to the end
-pub met_less : (from k : Key) (xs : List Slot) → Met from k xs → length (after k (order xs)) < length (after from (order xs))
-met_less from k xs q = omega (arith, ap (λ (l : List Cell). length l) q.split, ap (λ (l : List Cell). length l) q.onward)
-
-pub past_met_later : (s n m : ℕ) (from k : Key) (xs : List Slot) → Past s n m from xs → (q : Met from k xs) → s < k.section →
-    Some (at_place k.section 0 xs k.at) ≡ first_of (past_place s n (listed 0 0 (order xs)))
-past_met_later s n m from k xs p q h =
-    let e : k.section ≡ q.cell.slot.section = ap (λ (z : Key). z.section) (sym q.key) in
-    ap Some (met_record from k xs q 0) ∙ sym (ap first_of (p.left ∙ ap (λ (l : List Cell). past_place s n (listed s m l)) q.split) ∙ past_later s n m q.cell q.rest (omega (arith, h, e)))
-
-pub past_met_here : (s n m : ℕ) (from k : Key) (xs : List Slot) → Past s n m from xs → (q : Met from k xs) → k.section ≤ s → n < m →
-    Some (at_place k.section m xs k.at) ≡ first_of (past_place s n (listed 0 0 (order xs)))
-past_met_here s n m from k xs p q h l =
-    let e : q.cell.slot.section ≡ k.section = ap (λ (z : Key). z.section) q.key in
-    let here : q.cell.slot.section ≡ s = omega (arith, h, q.up, p.at, e) in
-    ap Some (met_record from k xs q m) ∙ sym (ap first_of (p.left ∙ ap (λ (l : List Cell). past_place s n (listed s m l)) q.split) ∙ past-here s n m q.cell q.rest here l)
-
-pub past_missed : (s n m : ℕ) (from : Key) (xs : List Slot) → Past s n m from xs → after from (order xs) ≡ [] → None ≡ first_of (past_place s n (listed 0 0 (order xs)))
-past_missed s n m from xs p e = sym (ap first_of (p.left ∙ ap (λ (l : List Cell). past_place s n (listed s m l)) e) ∙ past_none s n m)
-
--- looking for the first overrun: none was found so far, and n records of the section of `from` were read
-pub record Sought (n : ℕ) (from : Key) (xs : List Slot) : Type 0 where
-  pub left : first_defect (defect xs) from.section n (after from (order xs)) ≡ over xs
-  pub few : n + length (after from (order xs)) ≤ length xs
-
-pub sought_start : (g : Key) (xs : List Slot) → g ≡ gate 0 → Sought 0 g xs
-sought_start g xs e =
-    record {
-      left = ap (λ (z : Key). first_defect (defect xs) z.section 0 (after z (order xs))) e ∙ ap (first_defect (defect xs) 0 0) (gate_zero (order xs) (live xs)) ∙ over_is xs;
-      few = omega (arith, length-after g (order xs), length-order xs);
-    }
-  where
-    over_is : (ys : List Slot) → first_defect (defect ys) 0 0 (order ys) ≡ over ys
-    over_is ys = unfold over in refl
-
--- the number of the record that was met
-met_turn : (n : ℕ) (from k : Key) (xs : List Slot) (q : Met from k xs) → turn from.section n q.cell ≡ cond (eqb from.section k.section) n 0
-met_turn n from k xs q = ap (λ (z : Key). cond (eqb from.section z.section) n 0) q.key
-
-met_defect : (from k : Key) (xs : List Slot) (q : Met from k xs) → defect xs q.cell ≡ flaw (get_or xs k.at blank).len (aged k xs)
-met_defect from k xs q = ap (λ (x : Slot). flaw x.len (aged (key q.cell) xs)) (sym q.slot) ∙ ap (λ (z : Key). flaw (get_or xs k.at blank).len (aged z xs)) q.key
+pub none_left : (from : Key) (n : ℕ) (xs : List Slot) → None ≡ first_key (after from (order xs)) → turns from.section n (after from (order xs)) ≡ []
+none_left from n xs e = ap (turns from.section n) (none_met from xs e) ∙ turns_none from.section n
 
 turn-least : (b : Bool) (n : ℕ) → cond b n 0 ≤ n
 turn-least true n = omega arith
 turn-least false n = omega arith
 
-pub sought_more : (n m : ℕ) (from k : Key) (xs : List Slot) → Sought n from xs → (q : Met from k xs) → m ≡ cond (eqb from.section k.section) n 0 →
-    None ≡ flaw (get_or xs k.at blank).len (aged k xs) → Sought (m + 1) k xs
-sought_more n m from k xs s q t none =
-    let e : suc (turn from.section n q.cell) ≡ m + 1 = omega (arith, t, met_turn n from k xs q) in
-    record {
-      left =
-          ap (first_defect (defect xs) k.section (m + 1)) q.onward ∙ ap (λ (j : ℕ). first_defect (defect xs) k.section j q.rest) (sym e)
-          ∙ ap (λ (z : Key). first_defect (defect xs) z.section (suc (turn from.section n q.cell)) q.rest) (sym q.key)
-          ∙ sym (defect_pass (defect xs) from.section n q.cell q.rest (met_defect from k xs q ∙ sym none))
-          ∙ ap (first_defect (defect xs) from.section n) (sym q.split) ∙ s.left;
-      few = omega (arith, s.few, t, turn-least (eqb from.section k.section) n, ap (λ (l : List Cell). length l) q.split, ap (λ (l : List Cell). length l) q.onward);
-    }
+-- the count is still below the number of slots
+pub met_room : (from k : Key) (n m : ℕ) (xs : List Slot) → Met from k xs → m ≡ cond (eqb from.section k.section) n 0 → n + length (turns from.section n (after from (order xs))) ≤ length xs →
+    (m + 1 + length (turns k.section (m + 1) (after k (order xs))) ≤ length xs)
+    × (suc (length (turns k.section (m + 1) (after k (order xs)))) ≡ length (turns from.section n (after from (order xs))))
+met_room from k n m xs q e h =
+    let d = ap (λ (l : List Turn). length l) (met_left from k n m xs q e) in
+    (omega (arith, d, e, turn-least (eqb from.section k.section) n, h), omega (arith, d))
 
-pub sought_room : (n m : ℕ) (from k : Key) (xs : List Slot) → Sought n from xs → Met from k xs → m ≡ cond (eqb from.section k.section) n 0 → m < length xs
-sought_room n m from k xs s q t = omega (arith, s.few, t, turn-least (eqb from.section k.section) n, ap (λ (l : List Cell). length l) q.split)
+-- going through the records from a section on
+pub record Begun (s : ℕ) (xs : List Slot) (it : Entries) : Type 0 where
+  pub slots : it.slots.now ≡ xs
+  pub last : it.last ≡ gate s
+  pub number : it.number ≡ 0
 
-pub sought_found : (n m : ℕ) (from k : Key) (xs : List Slot) (w : Defect) → Sought n from xs → (q : Met from k xs) → m ≡ cond (eqb from.section k.section) n 0 →
-    Some w ≡ flaw (get_or xs k.at blank).len (aged k xs) → Some (record { place = record { section = k.section; number = m }; what = w }) ≡ over xs
-sought_found n m from k xs w s q t some =
-    let e : m ≡ turn from.section n q.cell = t ∙ sym (met_turn n from k xs q) in
-    ap (λ (z : Key). Some (record { place = record { section = z.section; number = m }; what = w })) (sym q.key)
-    ∙ ap (λ (j : ℕ). Some (record { place = record { section = q.cell.slot.section; number = j }; what = w })) e
-    ∙ sym (defect-found (defect xs) from.section n q.cell q.rest w (met_defect from k xs q ∙ sym some))
-    ∙ ap (first_defect (defect xs) from.section n) (sym q.split) ∙ s.left
+pub begun_left : (s : ℕ) (xs : List Slot) (it : Entries) → Begun s xs it → left it ≡ turns s 0 (after (gate s) (order xs))
+begun_left s xs it b =
+    ap (λ (ys : List Slot). turns it.last.section it.number (after it.last (order ys))) b.slots
+    ∙ ap (λ (z : Key). turns z.section it.number (after z (order xs))) b.last
+    ∙ ap (λ (j : ℕ). turns s j (after (gate s) (order xs))) b.number
 
-pub sought_missed : (n : ℕ) (from : Key) (xs : List Slot) → Sought n from xs → after from (order xs) ≡ [] → None ≡ over xs
-sought_missed n from xs s e = sym (ap (first_defect (defect xs) from.section n) e ∙ defect_none (defect xs) from.section n) ∙ s.left
+pub begun_room : (s : ℕ) (xs : List Slot) (it : Entries) → Begun s xs it → HasRoom it
+begun_room s xs it b =
+    let here = ap (λ (l : List Turn). length l) (begun_left s xs it b) in
+    let long = ap (λ (l : List Slot). length l) b.slots in
+    omega (arith, b.number, here, long, length-turns s 0 (after (gate s) (order xs)), length-after (gate s) (order xs), length-order xs)
+
+-- the records from the first section on are all
+begun_all : (xs : List Slot) (it : Entries) → Begun 0 xs it → left it ≡ turns 0 0 (order xs)
+begun_all xs it b = begun_left 0 xs it b ∙ ap (turns 0 0) (gate_zero (order xs) (live xs))
+
+pub begun_listed : (xs : List Slot) (it : Entries) → Begun 0 xs it → listed 0 0 (order xs) ≡ map placed_turn (left it)
+begun_listed xs it b = listed-turns 0 0 (order xs) ∙ ap (map placed_turn) (sym (begun_all xs it b))
+
+pub begun_past : (s n : ℕ) (xs : List Slot) (it : Entries) → Begun s xs it → past_place s n (listed 0 0 (order xs)) ≡ past_place s n (map placed_turn (left it))
+begun_past s n xs it b =
+    past-gate s n 0 0 (order xs) (live xs) (inl refl)
+    ∙ ap (past_place s n) (listed-turns s 0 (after (gate s) (order xs)) ∙ ap (map placed_turn) (sym (begun_left s xs it b)))
+
+-- the first of what is left
+pub first_left : (l : List Turn) (t : Turn) (rest : List Turn) → l ≡ t ∷ rest → Some (placed_turn t) ≡ first_of (map placed_turn l)
+unfolding first_of
+first_left l t rest e = sym (ap (λ (m : List Turn). first_of (map placed_turn m)) e)
+
+pub empty_left : (l : List Turn) → l ≡ [] → None ≡ first_of (map placed_turn l)
+unfolding first_of
+empty_left l e = sym (ap (λ (m : List Turn). first_of (map placed_turn m)) e)
+
+-- the first past a place is the one that is found
+pub found-past : (s n : ℕ) (l : List Turn) → first_of (past_place s n (map placed_turn l)) ≡ option_map placed_turn (find (λ t. past s n (placed_turn t)) l)
+unfolding past_place first_of
+found-past s n [] = refl
+found-past s n (t ∷ l) =
+    elim (cases_Bool (past s n (placed_turn t))) [
+      | inl p ↦ ap first_of (cond-true _ _ _ p) ∙ sym (ap (option_map placed_turn) (cond-true _ _ _ p))
+      | inr p ↦ ap first_of (cond-false _ _ _ p) ∙ found-past s n l ∙ sym (ap (option_map placed_turn) (cond-false _ _ _ p))
+    ]
+
+-- the first overrun of records with their numbers
+pub first_in : (Cell → Option Defect) → List Turn → Option Overrun
+first_in f [] = None
+first_in f (t ∷ ts) = or_on t.cell.slot.section t.number (f t.cell) (first_in f ts)
+
+defect-turns : (f : Cell → Option Defect) (s n : ℕ) (cs : List Cell) → first_defect f s n cs ≡ first_in f (turns s n cs)
+unfolding first_defect turns first_in
+defect-turns f s n [] = refl
+defect-turns f s n (c ∷ cs) = ap (or_on c.slot.section (turn s n c) (f c)) (defect-turns f c.slot.section (suc (turn s n c)) cs)
+
+pub begun_over : (xs : List Slot) (it : Entries) → Begun 0 xs it → first_in (defect xs) (left it) ≡ over xs
+begun_over xs it b = ap (first_in (defect xs)) (begun_all xs it b) ∙ sym (over_is ∙ defect-turns (defect xs) 0 0 (order xs))
+  where
+    over_is : over xs ≡ first_defect (defect xs) 0 0 (order xs)
+    over_is = unfold over in refl
+
+-- a record without a defect is passed over
+pub first-passed : (f : Cell → Option Defect) (l : List Turn) (t : Turn) (rest : List Turn) → l ≡ t ∷ rest → f t.cell ≡ None → first_in f rest ≡ first_in f l
+unfolding first_in
+first-passed f l t rest e n = sym (ap (first_in f) e ∙ ap (λ o. or_on t.cell.slot.section t.number o (first_in f rest)) n)
+
+pub first-found : (f : Cell → Option Defect) (l : List Turn) (t : Turn) (rest : List Turn) (w : Defect) → l ≡ t ∷ rest → f t.cell ≡ Some w →
+    Some (record { place = record { section = t.cell.slot.section; number = t.number }; what = w }) ≡ first_in f l
+unfolding first_in
+first-found f l t rest w e h = sym (ap (first_in f) e ∙ ap (λ o. or_on t.cell.slot.section t.number o (first_in f rest)) h)
+
+pub first-none : (f : Cell → Option Defect) (l : List Turn) → l ≡ [] → None ≡ first_in f l
+unfolding first_in
+first-none f l e = sym (ap (first_in f) e)

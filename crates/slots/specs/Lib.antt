@@ -2,3 +2,4 @@ pub mod Order
 pub mod Value
 pub mod Stores
 pub mod Vacancies
+pub mod Entries

@@ -1,5 +1,5 @@
 -- What a list of slots is worth as a journal. Assumes nothing.
-use Rattle.std.specs.Prelude.{ℕ, suc, ◌+◌, ◌^◌, min, Bool, true, false, cond, List, [], ◌∷◌, take, is_some, Some, None, Option, ◌==◌, nat_lt, slice_index_or}
+use Rattle.std.specs.Prelude.{ℕ, suc, ◌+◌, ◌^◌, min, Bool, true, false, cond, List, [], ◌∷◌, take, is_some, Some, None, Option, ◌==◌, nat_lt}
 use Rattle.journal.specs.Log.{Bytes, Section, Log, Placed}
 use Rattle.journal.specs.Steps.{Disk}
 use Rattle.journal.specs.declared.places.Defect.{Defect}
@@ -16,10 +16,6 @@ body x = take (min x.len 1068) x.bytes
 -- what stands past the end of a list of slots
 abbrev pub blank : Slot
 blank = record { section = 0; age = 0; len = 0; bytes = [] }
-
--- the record in the slot at a place of the list, as the n-th of section s
-abbrev pub at_place : ℕ → ℕ → List Slot → ℕ → Placed
-at_place s n xs i = record { section = s; number = n; bytes = body (slice_index_or xs i blank) }
 
 -- one record in front of sections: in the first, where that is its own
 unfoldable pub joined : Slot → List Section → List Section

@@ -13,6 +13,7 @@ use crate::medium::Medium;
 use crate::reading::{first_overrun, next_record};
 use journal::{Journal, MAX_RECORD, Overrun, Place, ReadStop, Record, Stop};
 
+mod entries;
 mod medium;
 mod reading;
 mod search;

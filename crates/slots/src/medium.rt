@@ -78,6 +78,7 @@ impl Medium<'_> {
         ensures left { self.new.power ≡ spent (unders section self.old.slots.now) self.old.power }
         ensures freed { Sweeping section (is_ok result) self.old.slots.now self.new.slots.now }
     {
+        // kept: by index, since an iterator over the slots would hold them, and each store borrows the whole medium.
         for at in 0..self.slots.len() {
             self.free_one(at, section)?;
         }

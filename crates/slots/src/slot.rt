@@ -1,6 +1,6 @@
 //! One slot of the list, and the order in which slots are read.
 ghost use Rattle.std.specs.Prelude.{◌≡◌, ◌≤◌, ◌==◌, length, take};
-ghost use Rattle.slots.specs.Order.{gate, is_free, slot_key};
+ghost use Rattle.slots.specs.Order.{gate, is_free, key_of, slot_key};
 ghost use Rattle.slots.specs.Stores.{Holds, free, under};
 
 use journal::MAX_RECORD;
@@ -19,11 +19,14 @@ pub struct Slot {
     pub bytes: [u8; MAX_RECORD],
 }
 
-/// What a slot is read by: its section, then its age, then its place in the list.
+/// What a record is read by: its section, then its age, then its place in the list.
 #[derive(Clone, Copy, Debug, PartialEq, Eq, PartialOrd, Ord)]
 pub struct Key {
+    /// The section of the record.
     pub section: u64,
+    /// The age of the record.
     pub age: u64,
+    /// The place of the slot in the list.
     pub at: usize,
 }
 
@@ -77,11 +80,7 @@ impl Slot {
         if self.is_free() {
             return None;
         }
-        Some(Key {
-            section: self.section,
-            age: self.age,
-            at,
-        })
+        Some(Key::of(self, at))
     }
 }
 
@@ -94,6 +93,17 @@ impl Key {
             section,
             age: 0,
             at: 0,
+        }
+    }
+
+    // The key of a record in this slot.
+    pub(crate) fn of(slot: &Slot, at: usize) -> Self
+        ensures { result ≡ key_of at slot.now }
+    {
+        Self {
+            section: slot.section,
+            age: slot.age,
+            at,
         }
     }
 }

@@ -1,26 +1,35 @@
-use Rattle.slots.proofs.Walk.{met, none_met, met_less, sought_start, sought_more, sought_found, sought_missed}
+use Rattle.std.proofs.Common.{Some, Option, sym, ap, ◌∙◌, subst}
+use Rattle.journal.specs.declared.places.Place.{Place}
+use Rattle.journal.specs.declared.places.Overrun.{Overrun}
+use Rattle.slots.specs.Entries.{turn_of, left}
+use Rattle.slots.specs.Value.{defect}
+use Rattle.slots.proofs.Walk.{Begun, begun_room, begun_over, first-passed, first-found, first-none}
 use Rattle.slots.proofs.reading.first_overrun.Goals as goal
 
-pub loop-key-init : goal.loop-key-init
-loop-key-init c = sought_start c.gate-from.result c.args.slots.now c.gate-from.ensures
+pub loop-entry-init : goal.loop-entry-init
+loop-entry-init c =
+    let xs = c.args.slots.now in
+    let it = c.into_iter-entry-iterator.result in
+    let e = c.from-entry-items.ensures in
+    let begun : Begun 0 xs it = subst (Begun 0 xs) (sym c.into_iter-entry-iterator.ensures.into_iter_gives) (record { slots = e.slots; last = e.last; number = e.number }) in
+    record { can = begun_room 0 xs it begun; finite = tt; same = begun_over xs it begun }
 
-pub defect_at-requires : goal.defect_at-requires
-defect_at-requires c = (met c.loop-key.from c.in-Some.key c.args.slots.now c.in-Some.ensures).within
+pub returns-in-Some-defect : goal.returns-in-Some-defect
+returns-in-Some-defect c =
+    let w = c.in-Some-defect.what in
+    ap {B = Option Overrun} (λ (p : Place). Some (record { place = p; what = w })) c.place-place.ensures
+    ∙ first-found (defect c.args.slots.now) (left c.loop-entry.entry-iterator) (turn_of c.in-Some.entry) _ w c.in-Some.ensures.steps (sym c.defect.ensures ∙ c.in-Some-defect.is)
+    ∙ c.loop-entry.invariant.same
 
-pub returns-in-Some-defect_at : goal.returns-in-Some-defect_at
-returns-in-Some-defect_at c =
-    sought_found c.loop-key.count c.turn_of-number.result c.loop-key.from c.in-Some.key c.args.slots.now c.in-Some-defect_at.what c.loop-key.invariant
-    (met c.loop-key.from c.in-Some.key c.args.slots.now c.in-Some.ensures) c.turn_of-number.ensures c.in-Some-defect_at.ensures
-
-pub loop-key-smaller : goal.loop-key-smaller
-loop-key-smaller c = met_less c.loop-key.from c.in-Some.key c.args.slots.now (met c.loop-key.from c.in-Some.key c.args.slots.now c.in-Some.ensures)
-
-pub loop-key-preserved : goal.loop-key-preserved
-loop-key-preserved c =
-    sought_more c.loop-key.count c.turn_of-number.result c.loop-key.from c.in-Some.key c.args.slots.now c.loop-key.invariant
-    (met c.loop-key.from c.in-Some.key c.args.slots.now c.in-Some.ensures) c.turn_of-number.ensures c.in_default-defect_at.ensures
+pub loop-entry-preserved : goal.loop-entry-preserved
+loop-entry-preserved c =
+    record {
+      can = c.in-Some.ensures.goes.keeps;
+      finite = tt;
+      same =
+          first-passed (defect c.args.slots.now) (left c.loop-entry.entry-iterator) (turn_of c.in-Some.entry) _ c.in-Some.ensures.steps (sym c.defect.ensures ∙ c.in_default.is)
+          ∙ c.loop-entry.invariant.same;
+    }
 
 pub returns : goal.returns
-returns c =
-    sought_missed c.loop-key.count c.loop-key.from c.args.slots.now c.loop-key.invariant
-    (none_met c.loop-key.from c.args.slots.now c.in_default.ensures)
+returns c = first-none (defect c.args.slots.now) (left c.loop-entry.entry-iterator) c.in-None.ensures.steps.0 ∙ c.loop-entry.invariant.same

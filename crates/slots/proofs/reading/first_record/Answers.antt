@@ -1,18 +1,19 @@
-use Rattle.std.proofs.Common.{Some, ap, ◌∙◌}
+use Rattle.std.proofs.Common.{Some, sym, ap, ◌∙◌}
 use Rattle.std.specs.Option.{option_map}
-use Rattle.journal.specs.Places.{placed}
-use Rattle.slots.proofs.Walk.{met, none_met, first_met, first_missed}
+use Rattle.journal.specs.Places.{placed, first_of}
+use Rattle.slots.specs.Entries.{turn_of, left}
+use Rattle.slots.proofs.Walk.{begun_room, begun_listed, first_left, empty_left}
 use Rattle.slots.proofs.reading.first_record.Goals as goal
 
-pub returns-in_err-key : goal.returns-in_err-key
-returns-in_err-key c =
-    ap (option_map placed) c.from_residual.ensures
-    ∙ first_missed c.gate.result c.args.slots.now c.gate.ensures (none_met c.gate.result c.args.slots.now c.in_err-key.ensures)
+pub next-requires : goal.next-requires
+next-requires c = begun_room 0 c.args.slots.now c.from.result (record { slots = c.from.ensures.slots; last = c.from.ensures.last; number = c.from.ensures.number })
 
-pub record_at-requires : goal.record_at-requires
-record_at-requires c = (met c.gate.result c.in_ok-key.key c.args.slots.now c.in_ok-key.ensures).within
+pub returns-in_err-entry : goal.returns-in_err-entry
+returns-in_err-entry c =
+    ap (option_map placed) c.from_residual.ensures ∙ empty_left (left c.from.result) c.in_err-entry.ensures.steps.0
+    ∙ sym (ap first_of (begun_listed c.args.slots.now c.from.result (record { slots = c.from.ensures.slots; last = c.from.ensures.last; number = c.from.ensures.number })))
 
 pub returns : goal.returns
 returns c =
-    ap Some c.record_at.ensures
-    ∙ first_met c.gate.result c.in_ok-key.key c.args.slots.now c.gate.ensures (met c.gate.result c.in_ok-key.key c.args.slots.now c.in_ok-key.ensures)
+    ap Some c.record.ensures ∙ first_left (left c.from.result) (turn_of c.in_ok-entry.entry) _ c.in_ok-entry.ensures.steps
+    ∙ sym (ap first_of (begun_listed c.args.slots.now c.from.result (record { slots = c.from.ensures.slots; last = c.from.ensures.last; number = c.from.ensures.number })))

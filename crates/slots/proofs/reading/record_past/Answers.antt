@@ -1,37 +1,36 @@
-use Rattle.std.proofs.Common.{Some, ap, ◌∙◌}
-use Rattle.slots.proofs.Walk.{met, none_met, past-start, past_more, met_less, past_met_later, past_met_here, past_missed}
+use Rattle.std.proofs.Common.{◌≡◌, Some, sym, refl, ap, ◌∙◌, rules}
+use Rattle.std.specs.Option.{option_map}
+use Rattle.std.specs.List.{find}
+use Rattle.std.proofs.lemmas.Iterator.Consumers.{YieldsList-from_first}
+use Rattle.std.proofs.lemmas.Iterator.Search.{find_from_yields_List}
+use Rattle.journal.specs.Places.{past, placed, first_of}
+use Rattle.slots.specs.Entries.{Turn, turn_of, placed_turn, left}
+use Rattle.slots.proofs.Walk.{begun_room, begun_past, found-past}
 use Rattle.slots.proofs.reading.record_past.Goals as goal
 
-pub loop-key-init : goal.loop-key-init
-loop-key-init c = past-start c.args.place.section c.args.place.number c.gate-from.result c.args.slots.now c.gate-from.ensures
+pub find-requires-clause-can : goal.find-requires-clause-can
+find-requires-clause-can c = begun_room c.args.place.section c.args.slots.now c.from.result (record { slots = c.from.ensures.slots; last = c.from.ensures.last; number = c.from.ensures.number })
 
-pub record_at-requires : goal.record_at-requires
-record_at-requires c = (met c.loop-key.from c.in-Some.key c.args.slots.now c.in-Some.ensures).within
-
-pub returns-then-key-place : goal.returns-then-key-place
-returns-then-key-place c =
-    ap Some c.record_at.ensures
-    ∙ past_met_later c.args.place.section c.args.place.number c.loop-key.number c.loop-key.from c.in-Some.key c.args.slots.now c.loop-key.invariant
-    (met c.loop-key.from c.in-Some.key c.args.slots.now c.in-Some.ensures) c.if-key-place.true
-
-pub record_at-requires-then-number-place : goal.record_at-requires-then-number-place
-record_at-requires-then-number-place c = (met c.loop-key.from c.in-Some.key c.args.slots.now c.in-Some.ensures).within
-
-pub returns-then-number-place : goal.returns-then-number-place
-returns-then-number-place c =
-    ap Some c.record_at-then-number-place.ensures
-    ∙ past_met_here c.args.place.section c.args.place.number c.loop-key.number c.loop-key.from c.in-Some.key c.args.slots.now c.loop-key.invariant
-    (met c.loop-key.from c.in-Some.key c.args.slots.now c.in-Some.ensures) c.if-key-place.false c.if-number-place.true
-
-pub loop-key-smaller : goal.loop-key-smaller
-loop-key-smaller c = met_less c.loop-key.from c.in-Some.key c.args.slots.now (met c.loop-key.from c.in-Some.key c.args.slots.now c.in-Some.ensures)
-
-pub loop-key-preserved : goal.loop-key-preserved
-loop-key-preserved c =
-    past_more c.args.place.section c.args.place.number c.loop-key.number c.loop-key.from c.in-Some.key c.args.slots.now c.loop-key.invariant
-    (met c.loop-key.from c.in-Some.key c.args.slots.now c.in-Some.ensures) c.if-key-place.false c.if-number-place.false
+pub returns-in_err-entry : goal.returns-in_err-entry
+unfolding past
+returns-in_err-entry c =
+    let s = c.args.place.section in
+    let n = c.args.place.number in
+    let test = λ (t : Turn). past s n (placed_turn t) in
+    let hit : option_map turn_of c.find.result ≡ find test (left c.from.result) =
+    find_from_yields_List test c.find.new.self _ c.find.result c.find.ensures.ran (YieldsList-from_first turn_of left (left c.from.result) refl) (λ x b q k. search rules) in
+    ap (option_map placed) c.from_residual.ensures ∙ ap (λ o. option_map placed_turn (option_map turn_of o)) (sym c.in_err-entry.was)
+    ∙ ap (option_map placed_turn) hit ∙ sym (found-past s n (left c.from.result))
+    ∙ sym (ap first_of (begun_past s n c.args.slots.now c.from.result (record { slots = c.from.ensures.slots; last = c.from.ensures.last; number = c.from.ensures.number })))
 
 pub returns : goal.returns
+unfolding past
 returns c =
-    past_missed c.args.place.section c.args.place.number c.loop-key.number c.loop-key.from c.args.slots.now c.loop-key.invariant
-    (none_met c.loop-key.from c.args.slots.now c.in_default.ensures)
+    let s = c.args.place.section in
+    let n = c.args.place.number in
+    let test = λ (t : Turn). past s n (placed_turn t) in
+    let hit : option_map turn_of c.find.result ≡ find test (left c.from.result) =
+    find_from_yields_List test c.find.new.self _ c.find.result c.find.ensures.ran (YieldsList-from_first turn_of left (left c.from.result) refl) (λ x b q k. search rules) in
+    ap Some c.record.ensures ∙ ap (λ o. option_map placed_turn (option_map turn_of o)) (sym c.in_ok-entry.was)
+    ∙ ap (option_map placed_turn) hit ∙ sym (found-past s n (left c.from.result))
+    ∙ sym (ap first_of (begun_past s n c.args.slots.now c.from.result (record { slots = c.from.ensures.slots; last = c.from.ensures.last; number = c.from.ensures.number })))
