@@ -1,2 +1,3 @@
 pub mod Ordered
+pub mod Placing
 pub mod Tallies

@@ -1,12 +1,17 @@
 -- Seats in ascending order of their keys. Assumes nothing.
-use Rattle.std.specs.Prelude.{Bool, true, ◌&&◌, List, [], ◌∷◌}
+use Rattle.std.specs.Prelude.{Bool, true, ◌&&◌, List, [], ◌∷◌, map}
 use Rattle.table.specs.Keys.{ahead}
+use Rattle.table.specs.Rows.{entry}
 use Rattle.table.specs.declared.Entry.{Entry}
-use Rattle.types.specs.Numbers.{Height, Participant}
+use Rattle.types.specs.Numbers.{height, Height, Participant}
 
 -- seats: each signer's key with its tip
 abbrev pub Seats : Type 0
 Seats = List (Entry Participant Height)
+
+-- seats of these keys, each with the tip 0
+abbrev pub at_zero : List Participant → Seats
+at_zero keys = map (λ k. entry k (height 0)) keys
 
 -- whether k comes before every key
 abbrev pub leads : Participant → Seats → Bool

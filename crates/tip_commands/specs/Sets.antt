@@ -1,12 +1,13 @@
--- The keys of a set, as a table. Assumes nothing.
-use Rattle.std.specs.Prelude.{List, map, take, Ok, Err, Result}
+-- A set of keys as seats. Assumes nothing.
+use Rattle.std.specs.Prelude.{List, map, Ok, Err, Result}
 use Rattle.types.specs.Numbers.{Participant}
-use Rattle.tip_commands.specs.Order.{Seats}
+use Rattle.tip_commands.specs.Order.{Seats, at_zero}
 use Rattle.tip_commands.specs.declared.key_sets.KeySet.{KeySet}
 use Rattle.tip_commands.specs.declared.faults.Fault.{Fault}
 
+-- the seats of a set: its keys, each with the tip 0
 abbrev pub seats_of : KeySet → Seats
-seats_of s = take s.used s.rows
+seats_of s = at_zero s.keys.items
 
 -- the keys of seats
 abbrev pub keys_of : Seats → List Participant

@@ -34,9 +34,9 @@ fn enrol(args: &[u8]) -> Result<KeySet, Fault>
     requires { length (words args.now) ≤ 16 }
     ensures { seats_read result ≡ enrolled [] (words args.now) }
 {
-    let mut set = KeySet::empty();
+    let mut set = KeySet::new();
     for word in Words::new(args) {
-        let key = number(word).ok_or(Fault::NoNumber(set.used + 1))?;
+        let key = number(word).ok_or(Fault::NoNumber(set.keys().len() + 1))?;
         set.add(Participant::new(key))?;
     }
     Ok(set)

@@ -111,6 +111,14 @@ impl<K> Number<K> {
     }
 }
 
+impl<K> Default for Number<K> {
+    ghost is_default = { λ n. n ≡ number 0 };
+
+    fn default() -> Self {
+        Self::zero()
+    }
+}
+
 impl<K> fmt::Display for Number<K> {
     ghost output = { λ n. Some (decimal n.0) };
 

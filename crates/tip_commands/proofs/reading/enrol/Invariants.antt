@@ -6,4 +6,4 @@ use Rattle.tip_commands.proofs.reading.enrol.Given as goal
 
 abbrev pub invariant-loop-word : goal.invariant-loop-word
 invariant-loop-word l =
-    (enrol [] (words l.fn.args) ≡ enrol (seats_of l.set) l.word-iterator) × (l.set.used + length l.word-iterator ≤ 16)
+    (enrol [] (words l.fn.args) ≡ enrol (seats_of l.set) l.word-iterator) × (length (seats_of l.set) + length l.word-iterator ≤ 16)
