@@ -3,7 +3,6 @@ ghost use Rattle.std.specs.Prelude.{◌≡◌, IfOk, Some, vec_items};
 ghost use Rattle.std.specs.Option.{option_map};
 ghost use Rattle.text.specs.Hex.{bytes_of, hex_of, HexReadsBack};
 
-use hex::FromHexError;
 use std::alloc::{AllocError, Global};
 use std::fmt;
 
@@ -14,9 +13,9 @@ pub fn read_hex(heap: Global, word: &[u8]) -> Result<Option<Vec<u8>>, AllocError
     if word == b"-".as_slice() {
         return Ok(Some(Vec::new(heap)));
     }
-    match hex::decode(heap, word) {
-        Ok(bytes) => Ok(Some(bytes)),
-        Err(FromHexError::OutOfMemory) => Err(AllocError),
+    let mut bytes = vec![in heap; 0u8; word.len() / 2]?;
+    match hex::decode_to_slice(word, bytes.as_mut_slice()) {
+        Ok(()) => Ok(Some(bytes)),
         Err(_) => Ok(None),
     }
 }
