@@ -9,7 +9,7 @@ use Rattle.journal.specs.declared.places.Overrun.{Overrun}
 use Rattle.std.specs.Option.{option_map}
 use Rattle.std.specs.List.{find}
 use Rattle.slots.specs.declared.entries.Entries.{Entries}
-use Rattle.slots.specs.Entries.{Turn, turns, placed_turn, left, HasRoom}
+use Rattle.slots.specs.Entries.{Turn, turns, placed_turn, Begun, left, HasRoom}
 use Rattle.slots.specs.Value.{listed, turn, defect, or_on, first_defect, over}
 use Rattle.journal.specs.Places.{past, past_place, first_of}
 use Rattle.std.proofs.lemmas.Bool.{cond-true, cond-false, cases_Bool}
@@ -125,12 +125,7 @@ met_room from k n m xs q e h =
     let d = ap (λ (l : List Turn). length l) (met_left from k n m xs q e) in
     (omega (arith, d, e, turn-least (eqb from.section k.section) n, h), omega (arith, d))
 
--- going through the records from a section on
-pub record Begun (s : ℕ) (xs : List Slot) (it : Entries) : Type 0 where
-  pub slots : it.slots.now ≡ xs
-  pub last : it.last ≡ gate s
-  pub number : it.number ≡ 0
-
+-- what is left at the beginning
 pub begun_left : (s : ℕ) (xs : List Slot) (it : Entries) → Begun s xs it → left it ≡ turns s 0 (after (gate s) (order xs))
 begun_left s xs it b =
     ap (λ (ys : List Slot). turns it.last.section it.number (after it.last (order ys))) b.slots

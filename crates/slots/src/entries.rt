@@ -2,9 +2,9 @@
 ghost use Rattle.std.specs.Prelude.{◌≡◌, if◌then◌else◌, nat_eq};
 ghost use Rattle.std.specs.Iterator.{YieldsFirstBy, item_count};
 ghost use Rattle.journal.specs.Places.{placed};
-ghost use Rattle.slots.specs.Order.{gate, aged, key_of};
+ghost use Rattle.slots.specs.Order.{aged, key_of};
 ghost use Rattle.slots.specs.Value.{flaw};
-ghost use Rattle.slots.specs.Entries.{turn_of, placed_turn, left, HasRoom};
+ghost use Rattle.slots.specs.Entries.{turn_of, placed_turn, Begun, left, HasRoom};
 
 use crate::search::{following, is_aged};
 use crate::slot::{Key, Slot};
@@ -70,9 +70,7 @@ pub struct Entries<'a> {
 impl<'a> Entries<'a> {
     // The records of `slots` from the first of `section` on.
     pub(crate) fn from(slots: &'a [Slot], section: u64) -> Self
-        ensures slots { result.slots.now ≡ slots.now }
-        ensures last { result.last ≡ gate section }
-        ensures number { result.number ≡ 0 }
+        ensures { Begun section slots.now result }
     {
         Self {
             slots,

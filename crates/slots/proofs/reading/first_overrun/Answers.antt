@@ -3,15 +3,15 @@ use Rattle.journal.specs.declared.places.Place.{Place}
 use Rattle.journal.specs.declared.places.Overrun.{Overrun}
 use Rattle.slots.specs.Entries.{turn_of, left}
 use Rattle.slots.specs.Value.{defect}
-use Rattle.slots.proofs.Walk.{Begun, begun_room, begun_over, first-passed, first-found, first-none}
+use Rattle.slots.specs.Entries.{Begun}
+use Rattle.slots.proofs.Walk.{begun_room, begun_over, first-passed, first-found, first-none}
 use Rattle.slots.proofs.reading.first_overrun.Goals as goal
 
 pub loop-entry-init : goal.loop-entry-init
 loop-entry-init c =
     let xs = c.args.slots.now in
     let it = c.into_iter-entry-iterator.result in
-    let e = c.from-entry-items.ensures in
-    let begun : Begun 0 xs it = subst (Begun 0 xs) (sym c.into_iter-entry-iterator.ensures.into_iter_gives) (record { slots = e.slots; last = e.last; number = e.number }) in
+    let begun : Begun 0 xs it = subst (Begun 0 xs) (sym c.into_iter-entry-iterator.ensures.into_iter_gives) c.from-entry-items.ensures in
     record { can = begun_room 0 xs it begun; finite = tt; same = begun_over xs it begun }
 
 pub returns-in-Some-defect : goal.returns-in-Some-defect

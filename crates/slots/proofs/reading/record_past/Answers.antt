@@ -9,7 +9,7 @@ use Rattle.slots.proofs.Walk.{begun_room, begun_past, found-past}
 use Rattle.slots.proofs.reading.record_past.Goals as goal
 
 pub find-requires-clause-can : goal.find-requires-clause-can
-find-requires-clause-can c = begun_room c.args.place.section c.args.slots.now c.from.result (record { slots = c.from.ensures.slots; last = c.from.ensures.last; number = c.from.ensures.number })
+find-requires-clause-can c = begun_room c.args.place.section c.args.slots.now c.from.result c.from.ensures
 
 pub returns-in_err-entry : goal.returns-in_err-entry
 unfolding past
@@ -21,7 +21,7 @@ returns-in_err-entry c =
     find_from_yields_List test c.find.new.self _ c.find.result c.find.ensures.ran (YieldsList-from_first turn_of left (left c.from.result) refl) (λ x b q k. search rules) in
     ap (option_map placed) c.from_residual.ensures ∙ ap (λ o. option_map placed_turn (option_map turn_of o)) (sym c.in_err-entry.was)
     ∙ ap (option_map placed_turn) hit ∙ sym (found-past s n (left c.from.result))
-    ∙ sym (ap first_of (begun_past s n c.args.slots.now c.from.result (record { slots = c.from.ensures.slots; last = c.from.ensures.last; number = c.from.ensures.number })))
+    ∙ sym (ap first_of (begun_past s n c.args.slots.now c.from.result c.from.ensures))
 
 pub returns : goal.returns
 unfolding past
@@ -33,4 +33,4 @@ returns c =
     find_from_yields_List test c.find.new.self _ c.find.result c.find.ensures.ran (YieldsList-from_first turn_of left (left c.from.result) refl) (λ x b q k. search rules) in
     ap Some c.record.ensures ∙ ap (λ o. option_map placed_turn (option_map turn_of o)) (sym c.in_ok-entry.was)
     ∙ ap (option_map placed_turn) hit ∙ sym (found-past s n (left c.from.result))
-    ∙ sym (ap first_of (begun_past s n c.args.slots.now c.from.result (record { slots = c.from.ensures.slots; last = c.from.ensures.last; number = c.from.ensures.number })))
+    ∙ sym (ap first_of (begun_past s n c.args.slots.now c.from.result c.from.ensures))
