@@ -1,5 +1,5 @@
 -- One step of going through the records in reading order. Assumes nothing.
-use Rattle.std.proofs.Common.{◌≡◌, ℕ, suc, ◌+◌, ◌<◌, ◌≤◌, Bool, true, false, cond, eqb, List, [], ◌∷◌, map, length, get_or, Some, None, Option, sym, refl, ap, ◌∙◌, subst, inl, inr, arith}
+use Rattle.std.proofs.Common.{◌≡◌, ℕ, suc, ◌+◌, ◌<◌, ◌≤◌, Bool, true, false, cond, eqb, List, [], ◌∷◌, map, length, get_or, Some, None, Option, MatchOption, sym, refl, ap, ◌∙◌, subst, inl, inr, arith}
 use Rattle.journal.specs.Log.{All, Placed}
 use Rattle.slots.specs.declared.slot.Slot.{Slot}
 use Rattle.slots.specs.declared.slot.Key.{Key}
@@ -8,8 +8,9 @@ use Rattle.journal.specs.declared.places.Defect.{Defect}
 use Rattle.journal.specs.declared.places.Overrun.{Overrun}
 use Rattle.std.specs.Option.{option_map}
 use Rattle.std.specs.List.{find}
+use Rattle.slots.specs.declared.entries.Entry.{Entry}
 use Rattle.slots.specs.declared.entries.Entries.{Entries}
-use Rattle.slots.specs.Entries.{Turn, turns, placed_turn, Begun, left, HasRoom}
+use Rattle.slots.specs.Entries.{Turn, turns, turn_of, placed_turn, Begun, left, HasRoom}
 use Rattle.slots.specs.Value.{listed, turn, defect, or_on, first_defect, over}
 use Rattle.journal.specs.Places.{past, past_place, first_of}
 use Rattle.std.proofs.lemmas.Bool.{cond-true, cond-false, cases_Bool}
@@ -151,13 +152,10 @@ begun_past s n xs it b =
     ∙ ap (past_place s n) (listed-turns s 0 (after (gate s) (order xs)) ∙ ap (map placed_turn) (sym (begun_left s xs it b)))
 
 -- the first of what is left
-pub first_left : (l : List Turn) (t : Turn) (rest : List Turn) → l ≡ t ∷ rest → Some (placed_turn t) ≡ first_of (map placed_turn l)
+pub first_read : (r : Option Entry) (l m : List Turn) → MatchOption r ((l ≡ []) × (m ≡ [])) (λ x. l ≡ turn_of x ∷ m) → option_map placed_turn (option_map turn_of r) ≡ first_of (map placed_turn l)
 unfolding first_of
-first_left l t rest e = sym (ap (λ (m : List Turn). first_of (map placed_turn m)) e)
-
-pub empty_left : (l : List Turn) → l ≡ [] → None ≡ first_of (map placed_turn l)
-unfolding first_of
-empty_left l e = sym (ap (λ (m : List Turn). first_of (map placed_turn m)) e)
+first_read None l m (e, _) = sym (ap (λ (k : List Turn). first_of (map placed_turn k)) e)
+first_read (Some x) l m e = sym (ap (λ (k : List Turn). first_of (map placed_turn k)) e)
 
 -- the first past a place is the one that is found
 pub found-past : (s n : ℕ) (l : List Turn) → first_of (past_place s n (map placed_turn l)) ≡ option_map placed_turn (find (λ t. past s n (placed_turn t)) l)

@@ -13,16 +13,16 @@ use journal::{Overrun, Place, Record};
 fn first_record(slots: &[Slot]) -> Option<Record<'_>>
     ensures { option_map placed result ≡ first_of (listed 0 0 (order slots.now)) }
 {
-    let entry = Entries::from(slots, 0).next()?;
-    Some(entry.record())
+    Entries::from(slots, 0).next().map(|entry| entry.record())
 }
 
 // The first record past a place.
 fn record_past(slots: &[Slot], place: Place) -> Option<Record<'_>>
     ensures { option_map placed result ≡ first_of (past_place place.section place.number (listed 0 0 (order slots.now))) }
 {
-    let entry = Entries::from(slots, place.section).find(|entry| entry.place() > place)?;
-    Some(entry.record())
+    Entries::from(slots, place.section)
+        .find(|entry| entry.place() > place)
+        .map(|entry| entry.record())
 }
 
 // The first record past a place, or the very first.
