@@ -20,7 +20,7 @@ none_young xs h e q s n =
     let ge : 2 ^ 64 ≤ highest xs + 1 = omega (arith, e, q) in
     ap (λ t. cond (is_some (vacant xs)) t false) (le-ltb (highest xs + 1) (2 ^ 64) ge) ∙ either_false (is_some (vacant xs))
 
-pub some-room : (xs : List Slot) (i h : ℕ) → Some i ≡ vacant xs → h ≡ highest xs → h + 1 < 2 ^ 64 → (s n : ℕ) → space xs s n ≡ true
+pub some_room : (xs : List Slot) (i h : ℕ) → Some i ≡ vacant xs → h ≡ highest xs → h + 1 < 2 ^ 64 → (s n : ℕ) → space xs s n ≡ true
 unfolding space
-some-room xs i h e f q s n =
+some_room xs i h e f q s n =
     ap (λ o. cond (is_some o) (ltb (highest xs + 1) (2 ^ 64)) false) (sym e) ∙ lt-ltb (highest xs + 1) (2 ^ 64) (omega (arith, f, q))

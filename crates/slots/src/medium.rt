@@ -27,6 +27,7 @@ pub struct Vacancy {
 
 impl Medium<'_> {
     // Where the next record goes.
+    #[tactic(auto, using(crate::proofs::Rooms::none_free, crate::proofs::Rooms::none_young, crate::proofs::Rooms::some_room))]
     pub(crate) fn vacancy(&self) -> Option<Vacancy>
         ensures { MatchOption result (NoRoom self.now.slots.now) (λ v. Room v self.now.slots.now) }
     {

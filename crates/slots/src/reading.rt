@@ -26,6 +26,7 @@ fn record_past(slots: &[Slot], place: Place) -> Option<Record<'_>>
 }
 
 // The first record past a place, or the very first.
+#[tactic(auto, unfolding(journal::specs::Places::beyond))]
 pub(crate) fn next_record(slots: &[Slot], after: Option<Place>) -> Option<Record<'_>>
     ensures { option_map placed result ≡ first_of (beyond after (listed 0 0 (order slots.now))) }
 {
