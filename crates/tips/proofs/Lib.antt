@@ -1,6 +1,6 @@
 pub mod Weights
 pub mod Tidy
-pub mod Lent
+pub mod Changes
 pub mod Shifts
 pub mod Marks
 pub mod Moves

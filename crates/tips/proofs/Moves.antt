@@ -1,12 +1,14 @@
--- One tip that rises, or falls to 0, and the tables after it. Assumes nothing.
-use Rattle.std.proofs.Common.{◌≡◌, ℕ, ◌+◌, ◌<◌, ◌≤◌, max, Bool, true, false, cond, ◌||◌, [], ◌∷◌, is_some, Some, None, sym, refl, ap, ◌∙◌, subst, arith}
+-- One tip that rises or falls, and the tables after it. Assumes nothing.
+use Rattle.std.proofs.Common.{◌≡◌, ℕ, ◌+◌, ◌<◌, ◌≤◌, min, max, Bool, true, false, cond, ◌||◌, [], ◌∷◌, is_some, Some, None, sym, refl, ap, arith}
 use Rattle.std.specs.List.{AllByRecursion as All}
 use Rattle.std.proofs.lemmas.Bool.{lt-ltb, le-ltb}
 use Rattle.table.specs.declared.Entry.{Entry}
 use Rattle.table.specs.Keys.{shorter}
 use Rattle.table.specs.Rows.{at, Sorted}
 use Rattle.types.specs.Numbers.{Height}
+use Rattle.tips.specs.declared.safe_tip.SafeTip.{SafeTip}
 use Rattle.tips.specs.Counting.{Rows, weigh, total, shifted, least, greatest, tidy, Topmost}
+use Rattle.tips.specs.Tips.{lowest, highest, counts}
 use Rattle.tips.proofs.Weights.{All-weaker}
 use Rattle.tips.proofs.Tidy.{Counted, counted}
 use Rattle.tips.proofs.Shifts.{some_of, all-at, weigh-shifted, total-shifted}
@@ -50,16 +52,16 @@ last_is m (e ∷ d ∷ es) s is =
     record { there = rw y rest.there; roof = (omega (arith, up), rest.roof) }
 
 -- no height is below new, as the least is not, or there is none
-pub above-least : (new m : Height) (es : Rows) → tidy es ≡ true → least es ≡ Some m → new.0 ≤ m.0 → All (λ e. new.0 ≤ e.key.0) es
-above-least new m es t is up = All-weaker (λ e. m.0 ≤ e.key.0) (λ e. new.0 ≤ e.key.0) (λ e k. omega (arith, up)) es (floor m es (counted es t).sorted is)
+pub above-least : (new m : Height) (es : Rows) → tidy es ≡ true → Some m ≡ least es → new.0 ≤ m.0 → All (λ e. new.0 ≤ e.key.0) es
+above-least new m es t is up = All-weaker (λ e. m.0 ≤ e.key.0) (λ e. new.0 ≤ e.key.0) (λ e k. omega (arith, up)) es (floor m es (counted es t).sorted (sym is))
 
 pub above_none : (new : Height) (es : Rows) → least es ≡ None → All (λ e. new.0 ≤ e.key.0) es
 above_none new [] is = tt
 above_none new (e ∷ es) is = absurd (let z : ◌≡◌ {A = ℕ} 0 1 = cc in omega arith)
 
 -- no height is above new, as the greatest is not, or there is none
-pub below_last : (new m : Height) (es : Rows) → tidy es ≡ true → greatest es ≡ Some m → m.0 ≤ new.0 → All (λ e. e.key.0 ≤ new.0) es
-below_last new m es t is down = All-weaker (λ e. e.key.0 ≤ m.0) (λ e. e.key.0 ≤ new.0) (λ e k. omega (arith, down)) es (last_is m es (counted es t).sorted is).roof
+pub below_last : (new m : Height) (es : Rows) → tidy es ≡ true → Some m ≡ greatest es → m.0 ≤ new.0 → All (λ e. e.key.0 ≤ new.0) es
+below_last new m es t is down = All-weaker (λ e. e.key.0 ≤ m.0) (λ e. e.key.0 ≤ new.0) (λ e k. omega (arith, down)) es (last_is m es (counted es t).sorted (sym is)).roof
 
 pub below_none : (new : Height) (es : Rows) → greatest es ≡ None → All (λ e. e.key.0 ≤ new.0) es
 below_none new [] is = tt
@@ -70,92 +72,90 @@ below_none new (e ∷ d ∷ es) is = absurd (never es d is)
     never [] f j = let z : ◌≡◌ {A = ℕ} 0 1 = cc in omega arith
     never (g ∷ fs) f j = never fs g j
 
-module _ (lo hi : Rows) (tl : tidy lo ≡ true) (th : tidy hi ≡ true) (few : total lo + total hi ≤ 16) (t : Topmost lo hi) where
+-- a tip that is counted, and not in the one table, is in the other
+in_second : (x y : Bool) → (x || y) ≡ true → false ≡ x → y ≡ true
+in_second true y h n = absurd (let z : ◌≡◌ {A = ℕ} 0 1 = cc in omega arith)
+in_second false y h n = h
+
+module _ (s : SafeTip) (old new : Height) where
   -- what two tables that one tip has changed keep, and how they count
-  pub record Step (old new : Height) (lo' hi' : Rows) : Type 0 where
-    pub fits : (total lo' + total hi' ≤ 16) × Topmost lo' hi'
-    pub moved : (p : ℕ → Bool) → (weigh p lo' + weigh p hi') + cond (p old.0) 1 0 ≡ (weigh p lo + weigh p hi) + cond (p new.0) 1 0
+  pub record Step (lo' hi' : Rows) : Type 0 where
+    pub few : total lo' + total hi' ≤ 16
+    pub top : Topmost lo' hi'
+    pub moved : (p : ℕ → Bool) → (weigh p lo' + weigh p hi') + cond (p old.0) 1 0 ≡ (weigh p (lowest s) + weigh p (highest s)) + cond (p new.0) 1 0
 
-  kl : Counted lo
-  kl = counted lo tl
+  kl : Counted (lowest s)
+  kl = counted (lowest s) s.lo.counted
 
-  kh : Counted hi
-  kh = counted hi th
+  kh : Counted (highest s)
+  kh = counted (highest s) s.hi.counted
 
-  m : Marked lo hi
-  m = marked lo hi kl kh t
+  m : Marked (lowest s) (highest s)
+  m = marked (lowest s) (highest s) kl kh s.top
 
-  module _ (old new : Height) (n : ℕ) where
-    step_hi : is_some (at shorter old hi) ≡ true → All (λ e. e.key.0 ≤ n) lo → All (λ e. n ≤ e.key.0) hi → n ≤ new.0 → (hi' : Rows) → hi' ≡ shifted old new hi → Step old new lo hi'
-    step_hi there us os up hi' is = subst (λ x. Step old new lo x) (sym is) (record {
-      fits = (omega (arith, few, total-shifted old new hi kh there), topmost lo (shifted old new hi) (in_hi lo hi kl kh m n old new there us os up));
-      moved = λ p. omega (arith, weigh-shifted old new hi kh there p);
+  -- the tip stays in hi, as no tip in lo is above new
+  pub stays_hi : true ≡ is_some (at shorter old (highest s)) → All (λ e. e.key.0 ≤ new.0) (lowest s) → (hi' : Rows) → hi' ≡ shifted old new (highest s) → Step (lowest s) hi'
+  stays_hi there us hi' is = rw is (record {
+    few = omega (arith, s.few, total-shifted old new (highest s) kh (sym there));
+    top =
+        topmost (lowest s) (shifted old new (highest s)) (in_hi (lowest s) (highest s) kl kh m (min m.mark new.0) old new (sym there)
+        (both (lowest s) m.under us)
+        (All-weaker (λ e. m.mark ≤ e.key.0) (λ e. min m.mark new.0 ≤ e.key.0) (λ e k. omega arith) (highest s) m.over)
+        (omega arith));
+    moved = λ p. omega (arith, weigh-shifted old new (highest s) kh (sym there) p);
+  })
+    where
+      both : (es : Rows) → All (λ e. e.key.0 ≤ m.mark) es → All (λ e. e.key.0 ≤ new.0) es → All (λ e. e.key.0 ≤ min m.mark new.0) es
+      both [] x y = tt
+      both (e ∷ es) x y = (omega (arith, x.0, y.0), both es x.1 y.1)
+
+  -- the tip goes from hi to lo, past the greatest of lo
+  pub falls : true ≡ is_some (at shorter old (highest s)) → (a : Height) → Some a ≡ greatest (lowest s) → new.0 < a.0 → (lo' hi' : Rows) → lo' ≡ shifted a new (lowest s) → hi' ≡ shifted old a (highest s) → Step lo' hi'
+  falls there a is down lo' hi' isl ish =
+      let l = last_is a (lowest s) kl.sorted (sym is) in
+      let f = some_of (at shorter a (lowest s)) l.there in
+      let u = all-at (λ x. x ≤ m.mark) a (lowest s) f.0 f.1 m.under in
+      rw (isl, ish) (record {
+        few = omega (arith, s.few, total-shifted a new (lowest s) kl l.there, total-shifted old a (highest s) kh (sym there));
+        top =
+            topmost (shifted a new (lowest s)) (shifted old a (highest s)) (in_both (lowest s) (highest s) kl kh m a.0 a new old a l.there (sym there) l.roof
+            (All-weaker (λ e. m.mark ≤ e.key.0) (λ e. a.0 ≤ e.key.0) (λ e k. omega (arith, u)) (highest s) m.over)
+            (omega arith) (omega arith));
+        moved = λ p. omega (arith, weigh-shifted a new (lowest s) kl l.there p, weigh-shifted old a (highest s) kh (sym there) p);
+      })
+
+  module _ (has : counts s old ≡ true) (not_hi : false ≡ is_some (at shorter old (highest s))) where
+    there : is_some (at shorter old (lowest s)) ≡ true
+    there = in_second _ _ has not_hi
+
+    -- the tip stays in lo, as no tip in hi is below new
+    pub stays_lo : All (λ e. new.0 ≤ e.key.0) (highest s) → (lo' : Rows) → lo' ≡ shifted old new (lowest s) → Step lo' (highest s)
+    stays_lo os lo' is = rw is (record {
+      few = omega (arith, s.few, total-shifted old new (lowest s) kl there);
+      top =
+          topmost (shifted old new (lowest s)) (highest s) (in_lo (lowest s) (highest s) kl kh m (max m.mark new.0) old new there
+          (All-weaker (λ e. e.key.0 ≤ m.mark) (λ e. e.key.0 ≤ max m.mark new.0) (λ e k. omega arith) (lowest s) m.under)
+          (both (highest s) m.over os)
+          (omega arith));
+      moved = λ p. omega (arith, weigh-shifted old new (lowest s) kl there p);
     })
-
-    step_lo : is_some (at shorter old lo) ≡ true → All (λ e. e.key.0 ≤ n) lo → All (λ e. n ≤ e.key.0) hi → new.0 ≤ n → (lo' : Rows) → lo' ≡ shifted old new lo → Step old new lo' hi
-    step_lo there us os up lo' is = subst (λ x. Step old new x hi) (sym is) (record {
-      fits = (omega (arith, few, total-shifted old new lo kl there), topmost (shifted old new lo) hi (in_lo lo hi kl kh m n old new there us os up));
-      moved = λ p. omega (arith, weigh-shifted old new lo kl there p);
-    })
-
-  step_both : (a b c d : Height) (n : ℕ) → is_some (at shorter a lo) ≡ true → is_some (at shorter c hi) ≡ true → All (λ e. e.key.0 ≤ n) lo → All (λ e. n ≤ e.key.0) hi → b.0 ≤ n → n ≤ d.0 → (total (shifted a b lo) + total (shifted c d hi) ≤ 16) × Topmost (shifted a b lo) (shifted c d hi)
-  step_both a b c d n ta tc us os low high =
-      (omega (arith, few, total-shifted a b lo kl ta, total-shifted c d hi kh tc), topmost (shifted a b lo) (shifted c d hi) (in_both lo hi kl kh m n a b c d ta tc us os low high))
-
-  module _ (old new : Height) where
-    -- a tip that rises: in hi, in lo, or over the least of hi
-    pub raise_hi : is_some (at shorter old hi) ≡ true → old.0 < new.0 → (hi' : Rows) → hi' ≡ shifted old new hi → Step old new lo hi'
-    raise_hi there up =
-        let f = some_of (at shorter old hi) there in
-        let o = all-at (λ x. m.mark ≤ x) old hi f.0 f.1 m.over in
-        step_hi old new m.mark there m.under m.over (omega (arith, o, up))
-
-    pub raise_lo : is_some (at shorter old lo) ≡ true → All (λ e. new.0 ≤ e.key.0) hi → (lo' : Rows) → lo' ≡ shifted old new lo → Step old new lo' hi
-    raise_lo there up =
-        step_lo old new (max m.mark new.0) there
-        (All-weaker (λ e. e.key.0 ≤ m.mark) (λ e. e.key.0 ≤ max m.mark new.0) (λ e k. omega arith) lo m.under)
-        (both hi m.over up) (omega arith)
       where
         both : (es : Rows) → All (λ e. m.mark ≤ e.key.0) es → All (λ e. new.0 ≤ e.key.0) es → All (λ e. max m.mark new.0 ≤ e.key.0) es
         both [] x y = tt
         both (e ∷ es) x y = (omega (arith, x.0, y.0), both es x.1 y.1)
 
-    pub raise_over : (a : Height) → least hi ≡ Some a → a.0 < new.0 → is_some (at shorter old lo) ≡ true → (lo' hi' : Rows) → lo' ≡ shifted old a lo → hi' ≡ shifted a new hi → Step old new lo' hi'
-    raise_over a is up there lo' hi' isl ish =
-        let here = first_there a hi is in
-        let f = some_of (at shorter a hi) here in
-        let o = all-at (λ x. m.mark ≤ x) a hi f.0 f.1 m.over in
-        subst (λ x. Step old new x hi') (sym isl) (subst (λ x. Step old new (shifted old a lo) x) (sym ish) (record {
-          fits = step_both old a a new a.0 there here (All-weaker (λ e. e.key.0 ≤ m.mark) (λ e. e.key.0 ≤ a.0) (λ e k. omega (arith, o)) lo m.under) (floor a hi kh.sorted is) (omega arith) (omega arith);
-          moved = λ p. omega (arith, weigh-shifted old a lo kl there p, weigh-shifted a new hi kh here p);
-        }))
-
-    -- a tip that falls to 0: in lo, in hi, or under the greatest of lo
-    pub lower_lo : is_some (at shorter old lo) ≡ true → new.0 ≡ 0 → (lo' : Rows) → lo' ≡ shifted old new lo → Step old new lo' hi
-    lower_lo there zero = step_lo old new m.mark there m.under m.over (omega (arith, zero))
-
-    pub lower_hi : is_some (at shorter old hi) ≡ true → new.0 ≡ 0 → All (λ e. e.key.0 ≤ new.0) lo → (hi' : Rows) → hi' ≡ shifted old new hi → Step old new lo hi'
-    lower_hi there zero us = step_hi old new new.0 there us (every hi) (omega arith)
-      where
-        every : (es : Rows) → All (λ e. new.0 ≤ e.key.0) es
-        every [] = tt
-        every (e ∷ es) = (omega (arith, zero), every es)
-
-    pub lower-over : (a : Height) → greatest lo ≡ Some a → new.0 ≡ 0 → is_some (at shorter old hi) ≡ true → (lo' hi' : Rows) → lo' ≡ shifted a new lo → hi' ≡ shifted old a hi → Step old new lo' hi'
-    lower-over a is zero there lo' hi' isl ish =
-        let l = last_is a lo kl.sorted is in
-        let f = some_of (at shorter a lo) l.there in
-        let u = all-at (λ x. x ≤ m.mark) a lo f.0 f.1 m.under in
-        subst (λ x. Step old new x hi') (sym isl) (subst (λ x. Step old new (shifted a new lo) x) (sym ish) (record {
-          fits = step_both a new old a a.0 l.there there l.roof (All-weaker (λ e. m.mark ≤ e.key.0) (λ e. a.0 ≤ e.key.0) (λ e k. omega (arith, u)) hi m.over) (omega (arith, zero)) (omega arith);
-          moved = λ p. omega (arith, weigh-shifted a new lo kl l.there p, weigh-shifted old a hi kh there p);
-        }))
-
--- a tip that is counted, and not in the one table, is in the other
-pub in_second : (x y : Bool) → (x || y) ≡ true → false ≡ x → y ≡ true
-in_second true y h n = absurd (let z : ◌≡◌ {A = ℕ} 0 1 = cc in omega arith)
-in_second false y h n = h
-
-pub in_first : (x y : Bool) → (x || y) ≡ true → false ≡ y → x ≡ true
-in_first true y h n = refl
-in_first false y h n = n ∙ h
+    -- the tip goes from lo to hi, past the least of hi
+    pub rises : (a : Height) → Some a ≡ least (highest s) → a.0 < new.0 → (lo' hi' : Rows) → lo' ≡ shifted old a (lowest s) → hi' ≡ shifted a new (highest s) → Step lo' hi'
+    rises a is up lo' hi' isl ish =
+        let here = first_there a (highest s) (sym is) in
+        let f = some_of (at shorter a (highest s)) here in
+        let o = all-at (λ x. m.mark ≤ x) a (highest s) f.0 f.1 m.over in
+        rw (isl, ish) (record {
+          few = omega (arith, s.few, total-shifted old a (lowest s) kl there, total-shifted a new (highest s) kh here);
+          top =
+              topmost (shifted old a (lowest s)) (shifted a new (highest s)) (in_both (lowest s) (highest s) kl kh m a.0 old a a new there here
+              (All-weaker (λ e. e.key.0 ≤ m.mark) (λ e. e.key.0 ≤ a.0) (λ e k. omega (arith, o)) (lowest s) m.under)
+              (floor a (highest s) kh.sorted (sym is))
+              (omega arith) (omega arith));
+          moved = λ p. omega (arith, weigh-shifted old a (lowest s) kl there p, weigh-shifted a new (highest s) kh here p);
+        })

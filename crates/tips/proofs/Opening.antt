@@ -3,7 +3,7 @@ use Rattle.std.proofs.Common.{◌≡◌, ℕ, suc, ◌+◌, ◌-◌, ◌<◌, �
 use Rattle.std.proofs.lemmas.List.{take-replicate}
 use Rattle.std.proofs.lemmas.List.Sums.{sum_by-cons}
 use Rattle.std.proofs.lemmas.Bool.Decides.{nat_tests}
-use Rattle.types.specs.Numbers.{height, number}
+use Rattle.types.specs.Numbers.{Height, height, number}
 use Rattle.tips.specs.Counting.{Rows, weigh, total, zeros, Topmost}
 use Rattle.tips.specs.Faults.{faults}
 use Rattle.tips.specs.Ranks.{Split}
@@ -59,8 +59,8 @@ opened_split keys n f lo hi len is isl ish =
     highest h = top (leb h 0) h (low (λ x. leb h x)) (high (λ x. leb h x))
 
 -- as many zeros as keys
-pub zero_tips : {K : Type 0} (keys : List K) (n : ℕ) → length keys ≤ n → take (length keys) (replicate n (height 0)) ≡ map (λ _. height 0) keys
-zero_tips {K = K} keys n le = take-replicate (length keys) n (height 0) le ∙ all keys
+pub zero_tips : {K : Type 0} (keys : List K) (n : ℕ) (z : Height) → z ≡ height 0 → length keys ≤ n → take (length keys) (replicate n z) ≡ map (λ _. height 0) keys
+zero_tips {K = K} keys n z is le = rw is (take-replicate (length keys) n (height 0) le ∙ all keys)
   where
     all : (ks : List K) → replicate (length ks) (height 0) ≡ map (λ _. height 0) ks
     all [] = refl

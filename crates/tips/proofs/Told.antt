@@ -11,27 +11,27 @@ use Rattle.table.proofs.Keeping.{sorted_put}
 use Rattle.types.specs.Numbers.{Height}
 use Rattle.tips.specs.declared.safe_tip.SafeTip.{SafeTip}
 use Rattle.tips.specs.Seats.{tip_of, tips_of, lower_than, seated_after}
-use Rattle.tips.specs.Tips.{lowest, highest, counts, Holds, Moved, if_counted, replaced, Told}
+use Rattle.tips.specs.Tips.{lowest, highest, counts, Holds, Moved, if_counted, replaced}
 use Rattle.tips.proofs.Splits.{split, weighed}
 
 module _ {K : Type 0} {less : K → K → Bool} (o : Total less) (k : K) (ss : List (Entry K Height)) (t : Height) (s : SafeTip) where
+  -- a call that tells nothing
+  pub record Untold : Type 0 where
+    pub answer : None ≡ replaced less k t ss s
+    pub counts : Holds ss s → None ≡ lower_than t (at less k ss)
+
   -- a call that tells, and what it leaves
   pub record Telling (r : Option Height) (seats' : List (Entry K Height)) (s' : SafeTip) : Type 0 where
     pub answer : r ≡ replaced less k t ss s
     pub seats : seats' ≡ seated_after less k t r ss
-    pub tables : Told t r s s'
     pub counts : Holds ss s → r ≡ lower_than t (at less k ss)
     pub holds : Holds ss s → Holds seats' s'
     pub sorted : Sorted less ss → Sorted less seats'
 
-  -- nothing is told
-  none_told : None ≡ replaced less k t ss s → (Holds ss s → None ≡ lower_than t (at less k ss)) → Telling None ss s
-  none_told a c = record { answer = a; seats = refl; tables = refl; counts = c; holds = λ h. h; sorted = λ h. h }
-
-  pub unknown : place less k ss ≡ None → Telling None ss s
+  pub unknown : place less k ss ≡ None → Untold
   unknown h =
       let none = at_none less k ss h in
-      none_told (sym (ap (λ x. if_counted s (lower_than t x)) none)) (λ _. sym (ap (lower_than t) none))
+      record { answer = sym (ap (λ x. if_counted s (lower_than t x)) none); counts = λ _. sym (ap (lower_than t) none) }
 
   module _ (i : ℕ) (here : place less k ss ≡ Some i) (d : Entry K Height) where
     seen : at less k ss ≡ Some (get_or ss i d).value
@@ -43,10 +43,10 @@ module _ {K : Type 0} {less : K → K → Bool} (o : Total less) (k : K) (ss : L
     as_low : (get_or ss i d).value.0 < t.0 → lower_than t (at less k ss) ≡ Some (get_or ss i d).value
     as_low h = ap (lower_than t) seen ∙ ap (λ b. cond b (Some (get_or ss i d).value) None) (lt-ltb (get_or ss i d).value.0 t.0 h)
 
-    pub too_low : t.0 ≤ (get_or ss i d).value.0 → Telling None ss s
-    too_low h = none_told (sym (ap (if_counted s) (as_high h))) (λ _. sym (as_high h))
+    pub too_low : t.0 ≤ (get_or ss i d).value.0 → Untold
+    too_low h = record { answer = sym (ap (if_counted s) (as_high h)); counts = λ _. sym (as_high h) }
 
-    -- the ss with the new tip
+    -- the seats with the new tip
     seated_is : (z : Entry K Height) → set ss i (entry (get_or ss i z).key t) ≡ put less k t ss
     seated_is z =
         let f = found less k ss i here in
@@ -71,17 +71,16 @@ module _ {K : Type 0} {less : K → K → Bool} (o : Total less) (k : K) (ss : L
         let b : ◌≡◌ {A = ℕ} (cond (p t.0) 1 0) 0 = ap (λ (b : Bool). cond {A = ℕ} b 1 0) (ne_eqb v t.0 (λ z. omega (arith, up))) in
         weighed (get_or ss i d).value (lowest s) (highest s) s.lo.counted s.hi.counted (omega (arith, raised k p, h.all p, a, b))
 
-    pub foreign : (get_or ss i d).value.0 < t.0 → counts s (get_or ss i d).value ≡ false → Telling None ss s
-    foreign up un =
-        none_told
-        (sym (ap (if_counted s) (as_low up) ∙ ap (λ b. cond b (Some (get_or ss i d).value) None) un))
-        (λ h. absurd (let y = is_counted up h in let z : ◌≡◌ {A = ℕ} 0 1 = cc in omega arith))
+    pub foreign : (get_or ss i d).value.0 < t.0 → counts s (get_or ss i d).value ≡ false → Untold
+    foreign up un = record {
+      answer = sym (ap (if_counted s) (as_low up) ∙ ap (λ b. cond b (Some (get_or ss i d).value) None) un);
+      counts = λ h. absurd (let y = is_counted up h in let z : ◌≡◌ {A = ℕ} 0 1 = cc in omega arith);
+    }
 
     pub told : (get_or ss i d).value.0 < t.0 → counts s (get_or ss i d).value ≡ true → (s' : SafeTip) → Moved (get_or ss i d).value t s s' → (z : Entry K Height) → Telling (Some (get_or ss i d).value) (set ss i (entry (get_or ss i z).key t)) s'
     told up yet s' m z = record {
       answer = sym (ap (if_counted s) (as_low up) ∙ ap (λ b. cond b (Some (get_or ss i d).value) None) yet);
       seats = seated_is z;
-      tables = m;
       counts = λ _. sym (as_low up);
       holds = λ h. split (tips_of (set ss i (entry (get_or ss i z).key t))) (lowest s') (highest s') s'.top (λ p. omega (arith, raised (get_or ss i z).key p, h.all p, m p));
       sorted = λ h. subst (Sorted less) (sym (seated_is z)) (sorted_put o k t ss h);

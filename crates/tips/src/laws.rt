@@ -4,22 +4,16 @@ ghost use Rattle.tips.specs.Ranks.{One};
 ghost use Rattle.tips.specs.Tips.{SafeTipCases};
 
 /// The worked cases of faults and quorum hold.
-pub fn quorum_cases_stand() -> u8
+pub fn quorum_cases_stand()
     ensures { QuorumCases }
-{
-    0
-}
+{}
 
 /// The worked cases of the safe tip hold.
-pub fn safe_tip_cases_stand() -> u8
+pub fn safe_tip_cases_stand()
     ensures { SafeTipCases }
-{
-    0
-}
+{}
 
 /// There is at most one safe tip.
-pub fn safe_tip_is_one() -> u8
+pub fn safe_tip_is_one()
     ensures { One }
-{
-    0
-}
+{}

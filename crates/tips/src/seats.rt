@@ -17,30 +17,11 @@ pub fn seat_of<K: Key>(seats: &[Entry<K, Height>], key: &K) -> Option<usize>
     table::position(seats, key)
 }
 
-/// Whether the two keys are one.
-fn same<K: Key>(x: &K, y: &K) -> bool
-    ensures { result ≡ level K.less x.now y.now }
-{
-    !x.before(y) && !y.before(x)
-}
-
-/// Whether `key` is one of the `keys`.
-pub fn is_among<K: Key>(keys: &[K], key: &K) -> bool
-    ensures { result ≡ among K.less key.now keys.now }
-{
-    for k in keys {
-        if same(k, key) {
-            return true;
-        }
-    }
-    false
-}
-
 /// The tip that `key` brings to a new set: its own, or 0 where it has no seat.
 fn carry<K: Key>(seats: &[Entry<K, Height>], key: &K) -> Height
     ensures { result ≡ carried K.less seats.now key.now }
 {
-    table::lookup(seats, key).unwrap_or(Height::new(0))
+    table::lookup(seats, key).unwrap_or(Height::zero())
 }
 
 /// Writes the tips that the keys bring to a new set, in their order, in front of `tips`.
@@ -73,7 +54,7 @@ pub fn change<K: Key>(seats: &mut [Entry<K, Height>], keys: &[K])
     requires few { length keys.now ≤ 16 }
     ensures { seats.new ≡ reseated K.less keys.now seats.old }
 {
-    let mut tips = [Height::new(0); MAX_SIGNERS];
+    let mut tips = [Height::zero(); MAX_SIGNERS];
     carry_all(seats, keys, &mut tips);
     seat_all(seats, keys, &tips);
 }

@@ -3,7 +3,7 @@
 mod number;
 
 /// A set of signers was given that has not as many keys as there are seats, or that is empty or too large.
-#[derive(Clone, Copy, PartialEq, Eq)]
+#[derive(Clone, Copy, Debug, PartialEq, Eq)]
 pub struct SetSize {
     /// How many seats there are.
     pub seats: usize,

@@ -1,28 +1,36 @@
 //! What is asked of a table of counts, and its changes by one tip.
 ghost use Rattle.std.specs.Prelude.{◌≡◌, ◌<◌, ◌≤◌, true, is_some};
+ghost use Rattle.std.specs.Option.{unwrap_or};
 ghost use Rattle.table.specs.Keys.{shorter};
 ghost use Rattle.table.specs.Rows.{at};
 ghost use Rattle.tips.specs.Counting.{more, fewer, shifted, total, least, greatest, zeros};
 ghost use Rattle.tips.specs.Tables.{rows_of};
 
 use super::Counts;
-use crate::MAX_SIGNERS;
-use table::{Entry, Placed};
+use table::{Entry, Table};
 use types::Height;
 
 impl Counts {
     /// A table of `count` tips of 0.
-    pub fn of_zeros(count: usize) -> Counts
+    pub fn of_zeros(count: usize) -> Self
         ensures { rows_of result ≡ zeros count }
     {
-        let used = if count > 0 { 1 } else { 0 };
-        Counts {
-            rows: [Entry {
-                key: Height::new(0),
-                value: count,
-            }; MAX_SIGNERS],
-            used,
+        let zero = Height::zero();
+        let mut table = Table::new(Entry {
+            key: zero,
+            value: 0,
+        });
+        if count > 0 {
+            let _ = table.insert(zero, count);
         }
+        Counts { table }
+    }
+
+    /// How many tips are counted at `height`.
+    fn count(&self, height: Height) -> usize
+        ensures { result ≡ unwrap_or (at shorter height (rows_of self.now)) 0 }
+    {
+        self.table.get(&height).unwrap_or(0)
     }
 
     /// Counts one tip more at `height`.
@@ -30,27 +38,19 @@ impl Counts {
         requires { total (rows_of self.old) < 16 }
         ensures { rows_of self.new ≡ more height (rows_of self.old) }
     {
-        let used = self.used;
-        let count = table::lookup(&self.rows[0..used], &height).unwrap_or(0) + 1;
-        if let Placed::Added = table::insert(&mut self.rows, used, height, count) {
-            self.used = used + 1;
-        }
+        let count = self.count(height);
+        let _ = self.table.insert(height, count + 1);
     }
 
     /// Counts one tip fewer at `height`, where there is one.
     pub fn dec(&mut self, height: Height)
         ensures { rows_of self.new ≡ fewer height (rows_of self.old) }
     {
-        let used = self.used;
-        match table::lookup(&self.rows[0..used], &height) {
-            Some(count) if count > 1 => {
-                table::insert(&mut self.rows, used, height, count - 1);
-            }
-            Some(_) => {
-                table::remove(&mut self.rows, used, &height);
-                self.used = used - 1;
-            }
-            None => {}
+        let count = self.count(height);
+        if count > 1 {
+            let _ = self.table.insert(height, count - 1);
+        } else {
+            self.table.remove(&height);
         }
     }
 
@@ -68,26 +68,20 @@ impl Counts {
     pub fn has(&self, height: Height) -> bool
         ensures { result ≡ is_some (at shorter height (rows_of self.now)) }
     {
-        table::lookup(&self.rows[0..self.used], &height).is_some()
+        self.table.get(&height).is_some()
     }
 
     /// The least height, if there is one.
     pub fn first(&self) -> Option<Height>
         ensures { result ≡ least (rows_of self.now) }
     {
-        match table::first(&self.rows[0..self.used]) {
-            Some(row) => Some(row.key),
-            None => None,
-        }
+        Some(table::first(self.table.as_slice())?.key)
     }
 
     /// The greatest height, if there is one.
     pub fn last(&self) -> Option<Height>
         ensures { result ≡ greatest (rows_of self.now) }
     {
-        match table::last(&self.rows[0..self.used]) {
-            Some(row) => Some(row.key),
-            None => None,
-        }
+        Some(table::last(self.table.as_slice())?.key)
     }
 }

@@ -16,7 +16,7 @@ use types::Height;
 
 impl SafeTip {
     /// The tables of the empty set.
-    pub fn new() -> SafeTip
+    pub fn new() -> Self
         ensures { Split [] (lowest result) (highest result) }
     {
         SafeTip {
@@ -50,7 +50,7 @@ impl SafeTip {
         let f = max_faults(n);
         self.lo = Counts::of_zeros(n - f);
         self.hi = Counts::of_zeros(f);
-        seat_all(seats, keys, &[Height::new(0); MAX_SIGNERS]);
+        seat_all(seats, keys, &[Height::zero(); MAX_SIGNERS]);
         Ok(())
     }
 
@@ -108,13 +108,11 @@ impl SafeTip {
         ensures sorted { Sorted K.less seats.old → Sorted K.less seats.new }
     {
         // Return early if the signer is not in the set.
-        let Some(i) = seat_of(seats, key) else {
-            return None;
-        };
+        let i = seat_of(seats, key)?;
 
         // If the new tip is not higher than the old tip, this is a no-op.
         let old = seats[i].value;
-        if old.0 >= tip.0 {
+        if old >= tip {
             return None;
         }
 
@@ -125,7 +123,7 @@ impl SafeTip {
 
         // Update the tip for the signer, and the tables.
         seats[i].value = tip;
-        self.raise(old, tip);
+        self.shift(old, tip);
         Some(old)
     }
 

@@ -5,7 +5,6 @@ ghost use Rattle.tips.specs.Seats.{tip_of, settled};
 ghost use Rattle.tips.specs.Tips.{counts as has, Moved, Recorded};
 
 use super::SafeTip;
-use crate::seats::is_among;
 use table::{Entry, Key};
 use types::Height;
 
@@ -17,84 +16,39 @@ impl SafeTip {
         self.hi.has(height) || self.lo.has(height)
     }
 
-    /// Moves one counted tip from `old` up to `new`.
+    /// Counts a tip at `new` in place of one at `old`.
     ///
-    /// Since the tip rises, there are three cases, in order of preference:
-    /// 1. The tip can remain in `hi`.
-    /// 2. The tip can remain in `lo`.
-    /// 3. The tip goes from `lo` to `hi`, and the least of `hi` to `lo`.
-    pub(super) fn raise(&mut self, old: Height, new: Height)
-        requires up { old.0 < new.0 }
-        requires there { has self.old old ≡ true }
+    /// The tip stays in its table if the other one has none that `new` passes.
+    /// Otherwise it takes the place of the nearest tip there, which comes over instead.
+    pub(super) fn shift(&mut self, old: Height, new: Height)
+        requires { has self.old old ≡ true }
         ensures { Moved old new self.old self.new }
     {
-        // Case 1: the tip can remain in `hi`.
         if self.hi.has(old) {
-            self.hi.shift(old, new);
-            return;
-        }
-
-        // The tip is in `lo`. It can remain there if every tip in `hi` is `new` or above.
-        if let Some(min_hi) = self.hi.first() {
-            if min_hi.0 < new.0 {
-                // Case 3: the tip and the least of `hi` change places.
-                self.lo.shift(old, min_hi);
-                self.hi.shift(min_hi, new);
-                return;
+            match self.lo.last() {
+                Some(max_lo) if new < max_lo => {
+                    self.hi.shift(old, max_lo);
+                    self.lo.shift(max_lo, new);
+                }
+                _ => self.hi.shift(old, new),
+            }
+        } else {
+            match self.hi.first() {
+                Some(min_hi) if min_hi < new => {
+                    self.lo.shift(old, min_hi);
+                    self.hi.shift(min_hi, new);
+                }
+                _ => self.lo.shift(old, new),
             }
         }
-
-        // Case 2: the tip can remain in `lo`.
-        self.lo.shift(old, new);
-    }
-
-    /// Moves one counted tip from `old` down to 0.
-    ///
-    /// Since the tip falls (or stays at 0), there are four cases, in order of preference:
-    /// 1. Nothing to do: the tip was 0 already.
-    /// 2. The tip can remain in `lo`.
-    /// 3. The tip can remain in `hi`.
-    /// 4. The tip goes from `hi` to `lo`, and the greatest of `lo` to `hi`.
-    pub(super) fn lower(&mut self, old: Height)
-        requires { has self.old old ≡ true }
-        ensures { Moved old (height 0) self.old self.new }
-    {
-        let new = Height::new(0);
-
-        // Case 1: nothing to do.
-        if old.0 == new.0 {
-            return;
-        }
-
-        // Case 2: the tip can remain in `lo`.
-        if self.lo.has(old) {
-            self.lo.shift(old, new);
-            return;
-        }
-
-        // The tip is in `hi`. It can remain there if every tip in `lo` is `new` or below.
-        if let Some(max_lo) = self.lo.last() {
-            if max_lo.0 > new.0 {
-                // Case 4: the tip and the greatest of `lo` change places.
-                self.hi.shift(old, max_lo);
-                self.lo.shift(max_lo, new);
-                return;
-            }
-        }
-
-        // Case 3: the tip can remain in `hi`.
-        self.hi.shift(old, new);
     }
 
     /// Lowers the tip of a seat to 0 if it is a leaver's, one whose key is not among `keys`.
     fn settle<K: Key>(&mut self, seat: &Entry<K, Height>, keys: &[K])
         ensures { has self.old seat.now.value ≡ true → Moved seat.now.value (settled K.less keys.now seat.now) self.old self.new }
     {
-        if is_among(keys, &seat.key) {
-            return;
-        }
-        if self.counts(seat.value) {
-            self.lower(seat.value);
+        if !keys.contains(&seat.key) && self.counts(seat.value) {
+            self.shift(seat.value, Height::zero());
         }
     }
 

@@ -1,25 +1,18 @@
-use Rattle.std.proofs.Common.{[], take, ap, ◌∙◌, arith}
-use Rattle.tips.specs.Counting.{tidy}
-use Rattle.tips.proofs.Tidy.{tidy-more}
-use Rattle.tips.proofs.Lent.{small, added, counted_on}
+use Rattle.std.proofs.Common.{arith}
+use Rattle.tips.specs.Tables.{rows_of}
+use Rattle.tips.proofs.Weights.{at-le}
+use Rattle.tips.proofs.Changes.{raised}
 use Rattle.tips.proofs.counts.Counts.inc.Goals as goal
 
 pub overflow_add-count : goal.overflow_add-count
-overflow_add-count c = omega (arith, small c.args.height c.args.self.now.used c.args.self.now.rows [] c.lookup.result c.lookup.ensures, c.requires, c.unwrap_or-count.ensures)
+overflow_add-count c = omega (arith, at-le c.args.height (rows_of c.args.self.now), c.requires, c.count-count.ensures)
 
 pub invariant_of-self : goal.invariant_of-self
 invariant_of-self c =
     let s = c.args.self.now in
-    let e = added c.args.height s.used s.rows c.insert.new.entries c.lookup.result c.lookup.ensures c.unwrap_or-count.result c.unwrap_or-count.ensures c.in-Added.ensures.entries in
-    record { sized = c.insert.auto.entries ∙ s.sized; within = omega (arith, c.in-Added.ensures.entries.0, s.sized); counted = ap tidy e ∙ tidy-more c.args.height (take s.used s.rows) s.counted }
+    record { counted = (raised c.args.height (rows_of s) _ s.counted _ c.count-count.ensures c.requires c.insert.result c.insert.ensures).1 }
 
-pub invariant_of-self-in_default : goal.invariant_of-self-in_default
-invariant_of-self-in_default c =
+pub returns : goal.returns
+returns c =
     let s = c.args.self.now in
-    let e = counted_on c.args.height s.used s.rows c.insert.new.entries c.lookup.result c.lookup.ensures c.unwrap_or-count.result c.unwrap_or-count.ensures c.insert.result c.in_default.not-Added s.sized s.counted c.requires c.insert.ensures.entries in
-    record { sized = c.insert.auto.entries ∙ s.sized; within = s.within; counted = ap tidy e ∙ tidy-more c.args.height (take s.used s.rows) s.counted }
-
-pub returns-in_default : goal.returns-in_default
-returns-in_default c =
-    let s = c.args.self.now in
-    counted_on c.args.height s.used s.rows c.insert.new.entries c.lookup.result c.lookup.ensures c.unwrap_or-count.result c.unwrap_or-count.ensures c.insert.result c.in_default.not-Added s.sized s.counted c.requires c.insert.ensures.entries
+    (raised c.args.height (rows_of s) _ s.counted _ c.count-count.ensures c.requires c.insert.result c.insert.ensures).0

@@ -13,7 +13,7 @@ returns g c =
     let some : 0 < length keys = omega arith in
     let few : length keys ≤ 16 = omega arith in
     let sized : length keys ≡ length c.args.seats.now = c.if-n-seats.false in
-    let is = c.seat_all.ensures (λ _. height 0) (zero_tips keys 16 few) in
+    let is = c.seat_all.ensures (λ _. height 0) (zero_tips keys 16 c.zero.result c.zero.ensures few) in
     let h = opened_split keys (length keys) c.max_faults-f.result (rows_of c.of_zeros-self.result) (rows_of c.of_zeros-self-2.result) refl c.max_faults-f.ensures c.of_zeros-self.ensures c.of_zeros-self-2.ensures in
     record {
       answer = passes-some (length c.args.seats.now) (length keys) some few sized;
