@@ -112,7 +112,8 @@ impl SafeTip {
 
         // If the new tip is not higher than the old tip, this is a no-op.
         let old = seats[i].value;
-        if old >= tip {
+        let stale = old >= tip;
+        if stale {
             return None;
         }
 
