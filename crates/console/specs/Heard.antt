@@ -1,11 +1,12 @@
 -- What a line says to the console, and what is replied. Assumes nothing.
-use Rattle.std.specs.Prelude.{◌≡◌, ℕ, Bool, false, cond, List, [], ◌∷◌, Some, None, Option, ◌==◌}
+use Rattle.std.specs.Prelude.{◌≡◌, ℕ, Bool, false, cond, List, [], ◌∷◌, Some, None, Option, Ok, Err, Result, ◌==◌}
 use Rattle.console_tips.specs.Doing.{after, answer, shown_tip, Shows}
 use Rattle.text.specs.Words.{words}
 use Rattle.tip_commands.specs.Order.{Seats}
 use Rattle.tip_commands.specs.Reading.{Said, command}
-use Rattle.console.specs.declared.replies.Reply.{Reply}
-use Rattle.console.specs.declared.replies.Reply.TheVariants.{Silent, Tips, Unknown}
+use Rattle.console_tips.specs.declared.answers.Answer.{Answer}
+use Rattle.console.specs.declared.refusals.Refused.{Refused}
+use Rattle.console.specs.declared.refusals.Refused.TheVariants.{Tips, Unknown}
 
 -- a line says nothing, a command of the signers' part, or begins with a word that is no command
 pub data Heard : Type 0 where
@@ -37,11 +38,12 @@ seats_after (tips_command s) seats = after s seats
 seats_after (unknown w) seats = seats
 
 -- the reply to a line: seats are those before it, and next those after it
-abbrev pub Replied : Heard → Seats → Seats → Reply → Type 0
-Replied nothing seats next r = r ≡ Silent
-Replied (tips_command s) seats next Silent = ⊥
-Replied (tips_command s) seats next (Tips a) = (a ≡ answer s seats (shown_tip a)) × Shows next a
-Replied (tips_command s) seats next (Unknown w) = ⊥
-Replied (unknown w) seats next Silent = ⊥
-Replied (unknown w) seats next (Tips a) = ⊥
-Replied (unknown w) seats next (Unknown x) = x.now ≡ w
+abbrev pub Replied : Heard → Seats → Seats → Result (Option Answer) Refused → Type 0
+Replied nothing seats next r = r ≡ Ok None
+Replied (tips_command s) seats next (Ok None) = ⊥
+Replied (tips_command s) seats next (Ok (Some a)) = (Ok a ≡ answer s seats (shown_tip (Ok a))) × Shows next (Ok a)
+Replied (tips_command s) seats next (Err (Tips e)) = Err e ≡ answer s seats (shown_tip (Err e))
+Replied (tips_command s) seats next (Err (Unknown x)) = ⊥
+Replied (unknown w) seats next (Ok o) = ⊥
+Replied (unknown w) seats next (Err (Tips e)) = ⊥
+Replied (unknown w) seats next (Err (Unknown x)) = x.now ≡ w

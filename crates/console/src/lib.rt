@@ -2,7 +2,9 @@
 #![tactic(auto)]
 
 mod consoles;
-mod replies;
+mod refusals;
+mod summaries;
 
 pub use consoles::Console;
-pub use replies::{Reply, Summary};
+pub use refusals::Refused;
+pub use summaries::{Counts, Summary};

@@ -1,5 +1,5 @@
 -- What a command does to the seats, and what is answered. Assumes nothing.
-use Rattle.std.specs.Prelude.{Bool, cond, [], ◌∷◌, length, Some, None, Option, ◌==◌, nat_lt}
+use Rattle.std.specs.Prelude.{Bool, cond, [], ◌∷◌, length, Some, None, Option, Ok, Err, Result, ◌==◌, nat_lt}
 use Rattle.table.specs.Keys.{ahead}
 use Rattle.table.specs.Rows.{at}
 use Rattle.tip_commands.specs.Order.{Seats}
@@ -10,7 +10,8 @@ use Rattle.tips.specs.Ranks.{Safe}
 use Rattle.tips.specs.Seats.{opened, reseated, seated_after, lower_than, tips_of}
 use Rattle.types.specs.Numbers.{height, Height}
 use Rattle.console_tips.specs.declared.answers.Answer.{Answer}
-use Rattle.console_tips.specs.declared.answers.Answer.TheVariants.{Seated, Counted, NotCounted, Refused}
+use Rattle.console_tips.specs.declared.answers.Answer.TheVariants.{Seated, Counted, NotCounted}
+use Rattle.console_tips.specs.declared.answers.Refusal.{Refusal}
 use Rattle.console_tips.specs.declared.answers.Refusal.TheVariants.{Words, Size, NoSigners}
 
 -- whether a set can sit: the first one where it has a key, a later one where it has as many as there are seats
@@ -34,24 +35,26 @@ abbrev pub told : Option Height → Height → Answer
 told None t = NotCounted t
 told (Some was) t = Counted was t
 
--- the answer to a command, where t is the safe tip after it
-abbrev pub answer : Said → Seats → Height → Answer
+-- the answer to a command, where t is the safe tip after it; what is refused changes nothing
+abbrev pub answer : Said → Seats → Height → Result Answer Refusal
 answer (signers set) seats t =
-    cond (fits set seats) (Seated (length set) (faults (length set)) (quorum (length set)) t) (Refused (Size (record { seats = length seats; keys = length set })))
-answer (tells k h) [] t = Refused NoSigners
-answer (tells k h) (s ∷ seats) t = told (lower_than h (at ahead k (s ∷ seats))) t
-answer (wrong e) seats t = Refused (Words e)
+    cond (fits set seats) (Ok (Seated (length set) (faults (length set)) (quorum (length set)) t)) (Err (Size (record { seats = length seats; keys = length set })))
+answer (tells k h) [] t = Err NoSigners
+answer (tells k h) (s ∷ seats) t = Ok (told (lower_than h (at ahead k (s ∷ seats))) t)
+answer (wrong e) seats t = Err (Words e)
 
--- the safe tip that an answer shows, if it shows one
-abbrev pub shown_tip : Answer → Height
-shown_tip (Seated n f q t) = t
-shown_tip (Counted was t) = t
-shown_tip (NotCounted t) = t
-shown_tip (Refused e) = height 0
+-- the safe tip that an answer shows
+abbrev pub tip_in : Answer → Height
+tip_in (Seated n f q t) = t
+tip_in (Counted was t) = t
+tip_in (NotCounted t) = t
+
+-- the same of what a command answers, if it shows one
+abbrev pub shown_tip : Result Answer Refusal → Height
+shown_tip (Ok a) = tip_in a
+shown_tip (Err e) = height 0
 
 -- it is that of the seats
-abbrev pub Shows : Seats → Answer → Type 0
-Shows seats (Seated n f q t) = Safe (tips_of seats) t.0
-Shows seats (Counted was t) = Safe (tips_of seats) t.0
-Shows seats (NotCounted t) = Safe (tips_of seats) t.0
-Shows seats (Refused e) = Unit {0}
+abbrev pub Shows : Seats → Result Answer Refusal → Type 0
+Shows seats (Ok a) = Safe (tips_of seats) (tip_in a).0
+Shows seats (Err e) = Unit {0}

@@ -1,12 +1,13 @@
-//! What is answered to a command.
+//! What is answered to a command, and what is printed of it.
+ghost use Rattle.std.specs.Prelude.{◌≡◌, Some};
+
+use std::fmt;
 use tip_commands::Fault;
 use tips::SetSize;
 use types::Height;
 
-mod printing;
-
-/// Why a command was refused.
-#[derive(Clone, Copy)]
+/// Why a command was refused; nothing changed.
+#[derive(Clone, Copy, Debug, PartialEq, Eq)]
 pub enum Refusal {
     /// The words of the line are wrong.
     Words(Fault),
@@ -16,15 +17,92 @@ pub enum Refusal {
     NoSigners,
 }
 
-/// What is answered to a command.
-#[derive(Clone, Copy)]
+/// What a command did.
+#[derive(Clone, Copy, Debug, PartialEq, Eq)]
 pub enum Answer {
-    /// So many signers sit now, so many of which may be faulty, and so many are a quorum; the safe tip.
-    Seated(usize, usize, usize, Height),
-    /// The tip counted, in place of this one; the safe tip.
-    Counted(Height, Height),
-    /// The tip did not count; the safe tip.
-    NotCounted(Height),
-    /// Nothing changed.
-    Refused(Refusal),
+    /// A set of signers sits now.
+    Seated {
+        /// How many signers sit.
+        signers: usize,
+        /// How many of them may be faulty.
+        faults: usize,
+        /// How many of them are a quorum.
+        quorum: usize,
+        /// The safe tip.
+        tip: Height,
+    },
+    /// The tip counted.
+    Counted {
+        /// The tip that it replaced.
+        was: Height,
+        /// The safe tip.
+        tip: Height,
+    },
+    /// The tip did not count.
+    NotCounted {
+        /// The safe tip.
+        tip: Height,
+    },
+}
+
+impl From<Fault> for Refusal {
+    ghost use Rattle.console_tips.specs.declared.answers.Refusal.TheVariants.{Words};
+
+    ghost from_gives = { λ fault refusal. refusal ≡ Words fault };
+
+    fn from(fault: Fault) -> Self {
+        Self::Words(fault)
+    }
+}
+
+impl From<SetSize> for Refusal {
+    ghost use Rattle.console_tips.specs.declared.answers.Refusal.TheVariants.{Size};
+
+    ghost from_gives = { λ size refusal. refusal ≡ Size size };
+
+    fn from(size: SetSize) -> Self {
+        Self::Size(size)
+    }
+}
+
+// kept: thiserror's derive would write this impl, and promises nothing of what it prints
+impl fmt::Display for Refusal {
+    ghost use Rattle.console_tips.specs.Printed.{refusal_line};
+
+    ghost output = { λ e. Some (refusal_line e) };
+
+    fn fmt<W: fmt::Write>(&self, f: &mut fmt::Formatter<W>) -> fmt::Result {
+        match *self {
+            Self::Words(fault) => write!(f, "refused: {fault}"),
+            Self::Size(SetSize { seats, keys }) => write!(
+                f,
+                "refused 11 SetSize: the set has {seats} signers, not {keys}"
+            ),
+            Self::NoSigners => f.write_str(
+                "refused: no signers yet, a line \"signers KEY KEY ..\" comes first",
+            ),
+        }
+    }
+}
+
+impl fmt::Display for Answer {
+    ghost use Rattle.console_tips.specs.Printed.{answer_line};
+
+    ghost output = { λ a. Some (answer_line a) };
+
+    fn fmt<W: fmt::Write>(&self, f: &mut fmt::Formatter<W>) -> fmt::Result {
+        match *self {
+            Self::Seated {
+                signers,
+                faults,
+                quorum,
+                tip,
+            } => write!(
+                f,
+                "signers {signers} faults {faults} quorum {quorum} safe tip {tip}"
+            ),
+            Self::Counted { was, tip } => write!(f, "counted, was {was}, safe tip {tip}"),
+            Self::NotCounted { tip } => write!(f, "not counted, safe tip {tip}"),
+        }
+    }
 }

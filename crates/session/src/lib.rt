@@ -2,7 +2,7 @@
 #![tactic(auto)]
 
 use anyhow::anyhow;
-use console::{Console, Reply};
+use console::Console;
 use std::env;
 use std::io::{BufRead, BufReader};
 
@@ -18,11 +18,11 @@ The last line printed is a summary.";
 
 /// Prints what a console replies to a line.
 fn answer(rt: &HostRuntime, console: &mut Console, line: &[u8]) -> anyhow::Result<()> {
-    let reply = console.take(line);
-    if let Reply::Silent = reply {
-        return Ok(());
+    match console.take(line) {
+        Ok(None) => {}
+        Ok(Some(answer)) => println!(rt; "{answer}")?,
+        Err(refused) => println!(rt; "{refused}")?,
     }
-    println!(rt; "{reply}")?;
     Ok(())
 }
 
@@ -35,17 +35,14 @@ fn end(rt: &HostRuntime, console: &Console) -> anyhow::Result<()> {
 
 /// Runs a console over standard input, or prints what it reads where the one argument is `--help`.
 pub fn run(rt: &HostRuntime) -> anyhow::Result<()> {
-    for (i, word) in env::args(rt)?.enumerate() {
-        if i == 0 {
-            continue;
+    if let Some(word) = env::args(rt)?.nth(1) {
+        if word.as_str() != "--help" {
+            return Err(anyhow!(format!(in rt.alloc();
+                "unknown argument {word}, the only one is --help"
+            )?));
         }
-        if i == 1 && word.as_str() == "--help" {
-            println!(rt; "{HELP}")?;
-            return Ok(());
-        }
-        return Err(anyhow!(format!(in rt.alloc();
-            "unknown argument {word}, the only one is --help"
-        )?));
+        println!(rt; "{HELP}")?;
+        return Ok(());
     }
     let mut console = Console::new();
     for line in BufReader::new(rt.alloc(), rt.stdin())?.split(rt.alloc(), b'\n') {

@@ -30,7 +30,7 @@ pub trait Key: Copy + Ord {
 }
 
 /// A key with its value.
-#[derive(Clone, Copy, Debug, PartialEq, Eq)]
+#[derive(Clone, Copy, Debug, Default, PartialEq, Eq)]
 pub struct Entry<K, V> {
     /// What the entry is found by.
     pub key: K,

@@ -1,0 +1,73 @@
+//! Why a line is refused, and what is printed of it.
+ghost use Rattle.std.specs.Prelude.{◌≡◌};
+
+use console_tips::Refusal;
+use std::fmt;
+use tip_commands::Fault;
+
+/// Why a line was refused; nothing changed.
+#[derive(Clone, Copy, Debug, PartialEq, Eq)]
+pub enum Refused<'a> {
+    /// The signers' part refuses it.
+    Tips(Refusal),
+    /// No command has this name.
+    Unknown(&'a [u8]),
+}
+
+impl From<Refusal> for Refused<'_> {
+    ghost use Rattle.console.specs.declared.refusals.Refused.TheVariants.{Tips};
+
+    ghost from_gives = { λ refusal refused. refused ≡ Tips refusal };
+
+    fn from(refusal: Refusal) -> Self {
+        Self::Tips(refusal)
+    }
+}
+
+impl From<Fault> for Refused<'_> {
+    ghost use Rattle.console.specs.declared.refusals.Refused.TheVariants.{Tips};
+    ghost use Rattle.console_tips.specs.declared.answers.Refusal.TheVariants.{Words};
+
+    ghost from_gives = { λ fault refused. refused ≡ Tips (Words fault) };
+
+    fn from(fault: Fault) -> Self {
+        Self::Tips(Refusal::Words(fault))
+    }
+}
+
+/// The first bytes of a word, as they can be printed: a byte that is no ASCII character stands as two hex digits.
+#[derive(Clone, Copy)]
+struct Excerpt<'a>(&'a [u8]);
+
+impl fmt::Display for Excerpt<'_> {
+    fn fmt<W: fmt::Write>(&self, f: &mut fmt::Formatter<W>) -> fmt::Result {
+        for &byte in self.0.iter().take(32) {
+            if byte.is_ascii_graphic() {
+                f.write_char(char::from(byte))?;
+            } else {
+                write!(f, "\\x{byte:02x}")?;
+            }
+        }
+        if self.0.len() > 32 {
+            f.write_str("..")?;
+        }
+        Ok(())
+    }
+}
+
+// kept: thiserror's derive would write this impl, and promises nothing of what it prints
+impl fmt::Display for Refused<'_> {
+    ghost use Rattle.console.specs.Printed.{refused_line};
+
+    ghost output = { refused_line };
+
+    fn fmt<W: fmt::Write>(&self, f: &mut fmt::Formatter<W>) -> fmt::Result {
+        match *self {
+            Self::Tips(refusal) => write!(f, "{refusal}"),
+            Self::Unknown(name) => {
+                let name = Excerpt(name);
+                write!(f, "refused: no command is named {name}, --help lists them")
+            }
+        }
+    }
+}
