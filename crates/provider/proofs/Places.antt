@@ -5,7 +5,7 @@ use Rattle.std.proofs.lemmas.Slice.Eq.{bytes_eq-Decides}
 use Rattle.std.specs.Str.{bytes_eq}
 use Rattle.types.specs.Texts.{PublicKey}
 use Rattle.table.specs.declared.Entry.{Entry}
-use Rattle.table.specs.Keys.{lower}
+use Rattle.table.specs.Keys.{lower, earlier}
 use Rattle.table.specs.Rows.{place, onward}
 use Rattle.table.specs.Bytewise.{lower_total}
 use Rattle.provider.specs.Answers.{Bytes}
@@ -30,19 +30,15 @@ absent k x (y ∷ ys) up below =
     cond-false (bytes_eq k x) (Some 0) (onward (position k (y ∷ ys))) (apart k x below)
     ∙ ap onward (absent k y ys up.1 (lower_total.trans k x y below up.0))
 
--- the order of keys by their bytes
-abbrev pub by_bytes : PublicKey → PublicKey → Bool
-by_bytes x y = lower x.bytes y.bytes
-
 tail : (x : Bytes) (xs : List Bytes) → Ascending lower (x ∷ xs) → Ascending lower xs
 tail x [] up = tt
 tail x (y ∷ ys) up = up.1
 
-pub placed : (k : PublicKey) (rows : List (Entry PublicKey ℕ)) → Ascending lower (key_bytes (row_keys rows)) → place by_bytes k rows ≡ position k.bytes (key_bytes (row_keys rows))
+pub placed : {V : Type 0} (k : PublicKey) (rows : List (Entry PublicKey V)) → Ascending lower (key_bytes (row_keys rows)) → place earlier k rows ≡ position k.bytes (key_bytes (row_keys rows))
 placed k [] up = refl
 placed k (e ∷ es) up =
     let x = e.key.bytes in
-    let rest : Option ℕ = place by_bytes k es in
+    let rest : Option ℕ = place earlier k es in
     let ahead : Option ℕ = position k.bytes (key_bytes (row_keys es)) in
     let ih = placed k es (tail x (key_bytes (row_keys es)) up) in
     ⊎_elim
@@ -68,10 +64,9 @@ placed k (e ∷ es) up =
     (cases_Bool (lower x k.bytes))
 
 -- what the table of the keys answers is the position
-pub found : (k : PublicKey) (ks : List PublicKey) (rows : List (Entry PublicKey ℕ)) (o : Option ℕ) → row_keys (take (length ks) rows) ≡ ks
-    → Ascending lower (key_bytes ks) → o ≡ place by_bytes k (take (length ks - 0) rows) → o ≡ position k.bytes (key_bytes ks)
+pub found : {V : Type 0} (k : PublicKey) (ks : List PublicKey) (rows : List (Entry PublicKey V)) (o : Option ℕ) → row_keys (take (length ks) rows) ≡ ks
+    → Ascending lower (key_bytes ks) → o ≡ place earlier k (take (length ks) rows) → o ≡ position k.bytes (key_bytes ks)
 found k ks rows o same up answer =
     answer
-    ∙ ap (λ (n : ℕ). place by_bytes k (take n rows)) (omega arith)
     ∙ placed k (take (length ks) rows) (subst (λ (js : List PublicKey). Ascending lower (key_bytes js)) (sym same) up)
     ∙ ap (λ (js : List PublicKey). position k.bytes (key_bytes js)) same

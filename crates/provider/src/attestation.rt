@@ -2,8 +2,10 @@
 use types::{Participant, Signature};
 
 /// A signature and who made it.
-#[derive(Clone, Copy)]
+#[derive(Clone, Copy, Debug, PartialEq, Eq)]
 pub struct Attestation {
+    /// Who signed.
     pub signer: Participant,
+    /// What it signed with.
     pub signature: Signature,
 }

@@ -1,12 +1,9 @@
 //! A certificate, held by value.
-ghost use Rattle.std.specs.Prelude.{◌≤◌};
+use arrayvec::ArrayVec;
 
 /// At most 1,026 bytes that show that a quorum signed.
-#[derive(Clone, Copy)]
+#[derive(Clone, Debug, PartialEq, Eq, Drop)]
 pub struct Certificate {
-    /// The certificate's bytes, and behind them what does not belong to it.
-    pub bytes: [u8; 1026],
-    /// How many of the bytes are the certificate.
-    pub len: usize,
-    ghost within: { len ≤ 1026 },
+    /// The bytes.
+    pub bytes: ArrayVec<u8, 1026>,
 }

@@ -2,17 +2,17 @@
 ghost use Rattle.std.specs.Prelude.{◌≡◌, true};
 
 use crate::Provider;
-use types::{Epoch, Height};
+use types::{Epoch, Item};
 
 /// Whether the provider accepts its own signature, where it makes one: it always does.
-pub fn accepts_own<P: Provider>(provider: &P, epoch: Epoch, height: Height, digest: &[u8]) -> bool
+pub fn accepts_own<P: Provider>(provider: &P, epoch: Epoch, item: &Item) -> bool
     ensures { result ≡ true }
 {
     let Some(me) = provider.me(epoch) else {
         return true;
     };
-    match provider.sign(epoch, height, digest) {
-        Some(signature) => provider.accepts(epoch, me, height, digest, &signature.bytes),
-        None => false,
-    }
+    let Some(signature) = provider.sign(epoch, item) else {
+        return false;
+    };
+    provider.accepts(epoch, me, item, &signature.bytes)
 }

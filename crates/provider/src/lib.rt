@@ -15,14 +15,14 @@ pub use attestation::Attestation;
 pub use certificate::Certificate;
 pub use checks::accepts_own;
 pub use positions::position;
-use types::{Epoch, Height, Participant, PublicKey, Signature};
+use types::{Epoch, Item, Participant, PublicKey, Signature};
 
 impl Certificate {
     /// The certificate's bytes.
     pub fn as_bytes(&self) -> &[u8]
         ensures { result.now ≡ certified self.now }
     {
-        &self.bytes[0..self.len]
+        self.bytes.as_slice()
     }
 }
 
@@ -43,20 +43,13 @@ pub trait Provider {
     fn position(&self, epoch: Epoch, key: &PublicKey) -> Option<Participant>
         ensures { number result ≡ position_in key.now.bytes ((meaning self.now).verifying.keys epoch.0) };
 
-    /// Whether `signature` is the signer's for this height and digest.
-    fn accepts(
-        &self,
-        epoch: Epoch,
-        signer: Participant,
-        height: Height,
-        digest: &[u8],
-        signature: &[u8],
-    ) -> bool
-        ensures { result ≡ (meaning self.now).verifying.accepts epoch.0 signer.0 height.0 digest.now signature.now };
+    /// Whether `signature` is the signer's for the item.
+    fn accepts(&self, epoch: Epoch, signer: Participant, item: &Item, signature: &[u8]) -> bool
+        ensures { result ≡ (meaning self.now).verifying.accepts epoch.0 signer.0 item.now.height.0 item.now.digest.now signature.now };
 
-    /// Whether `certificate` shows that a quorum of `epoch` signed this height and digest.
-    fn valid(&self, epoch: Epoch, height: Height, digest: &[u8], certificate: &[u8]) -> bool
-        ensures { result ≡ (meaning self.now).verifying.valid epoch.0 height.0 digest.now certificate.now };
+    /// Whether `certificate` shows that a quorum of `epoch` signed the item.
+    fn valid(&self, epoch: Epoch, item: &Item, certificate: &[u8]) -> bool
+        ensures { result ≡ (meaning self.now).verifying.valid epoch.0 item.now.height.0 item.now.digest.now certificate.now };
 
     // The questions that need signing.
 
@@ -64,9 +57,9 @@ pub trait Provider {
     fn me(&self, epoch: Epoch) -> Option<Participant>
         ensures { number result ≡ (meaning self.now).signing.own epoch.0 };
 
-    /// The own signature for this height and digest, where `epoch` has an own signer.
-    fn sign(&self, epoch: Epoch, height: Height, digest: &[u8]) -> Option<Signature>
-        ensures { signed result ≡ (meaning self.now).signing.sign epoch.0 height.0 digest.now };
+    /// The own signature for the item, where `epoch` has an own signer.
+    fn sign(&self, epoch: Epoch, item: &Item) -> Option<Signature>
+        ensures { signed result ≡ (meaning self.now).signing.sign epoch.0 item.now.height.0 item.now.digest.now };
 
     /// The certificate that the signatures make, where they are of n − f or more signers of `epoch` in ascending order.
     fn assemble(&self, epoch: Epoch, attestations: &[Attestation]) -> Option<Certificate>

@@ -7,18 +7,19 @@ ghost use Rattle.provider.specs.Values.{key_bytes, number};
 use table::Entry;
 use types::{Participant, PublicKey};
 
-/// Enters the keys into the rows, in their order.
-fn enter(keys: &[PublicKey], rows: &mut [Entry<PublicKey, u8>])
-    ensures { length keys.now ≤ length rows.old → row_keys (take (length keys.now) rows.new) ≡ keys.now }
+/// The keys as the first rows of a table; `other` fills the rows behind them.
+fn rows(keys: &[PublicKey], other: &PublicKey) -> [Entry<PublicKey, ()>; 16]
+    requires { length keys.now ≤ 16 }
+    ensures { row_keys (take (length keys.now) result) ≡ keys.now }
 {
+    let mut rows = [Entry {
+        key: *other,
+        value: (),
+    }; 16];
     for (i, key) in keys.iter().enumerate() {
-        if i < rows.len() {
-            rows[i] = Entry {
-                key: *key,
-                value: 0,
-            };
-        }
+        rows[i].key = *key;
     }
+    rows
 }
 
 /// The position of `key` among the keys of an epoch, found in their ordered table.
@@ -28,13 +29,6 @@ pub fn position(keys: &[PublicKey], key: &PublicKey) -> Option<Participant>
     if keys.len() > 16 {
         return None;
     }
-    let mut rows = [Entry {
-        key: *key,
-        value: 0u8,
-    }; 16];
-    enter(keys, &mut rows);
-    match table::position(&rows[0..keys.len()], key) {
-        Some(i) => Some(Participant::new(i as u64)),
-        None => None,
-    }
+    let place = table::position(&rows(keys, key)[..keys.len()], key)?;
+    Some(Participant::new(place as u64))
 }

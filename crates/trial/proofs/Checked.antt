@@ -1,21 +1,22 @@
 -- A set of a list without a fault fits. Assumes nothing.
-use Rattle.std.proofs.Common.{◌≡◌, ℕ, suc, ◌<◌, ◌≤◌, Bool, true, false, cond, not, eqb, ltb, List, [], ◌∷◌, length, is_some, Some, None, All, Option, sym, refl, ◌∙◌, subst, ⊎_elim, arith}
-use Rattle.std.proofs.lemmas.List.{length-map, length-take-le}
+use Rattle.std.proofs.Common.{◌≡◌, ℕ, suc, ◌<◌, ◌≤◌, Bool, true, false, cond, not, eqb, ltb, List, [], ◌∷◌, length, is_some, Some, None, All, IfSome, Option, sym, refl, ◌∙◌, subst, ⊎_elim, arith}
+use Rattle.std.proofs.lemmas.List.{length-map}
 use Rattle.std.proofs.lemmas.List.Elements.{All-nil, All-cons}
-use Rattle.std.proofs.lemmas.Bool.{cases_Bool, cond-true, cond-false, and_parts, eqb-true, ltb-true, ltb-false}
+use Rattle.std.proofs.lemmas.Bool.{cases_Bool, cond-true, cond-false, ltb-true, ltb-false}
+use Rattle.std.specs.Option.{option_map}
 use Rattle.std.specs.Str.{bytes_eq}
 use Rattle.types.specs.Texts.{PublicKey}
 use Rattle.types.specs.Numbers.{Participant}
 use Rattle.table.specs.Keys.{lower}
 use Rattle.provider.specs.Answers.{Bytes}
 use Rattle.provider.specs.Laws.{Ascending}
+use Rattle.provider.specs.Values.{key_bytes}
 use Rattle.trial.specs.declared.epoch_set.EpochSet.{EpochSet}
 use Rattle.trial.specs.declared.fault.Fault.{Fault}
 use Rattle.trial.specs.declared.fault.Fault.TheVariants.{FewKeys, ManyKeys, EqualKeys, UnsortedKeys, OwnSigner}
 use Rattle.trial.specs.Faults.{or_else, placed, size_fault, neighbour_fault, key_faults, keys_fault, own_fault, set_fault, epoch_fault, fault_after, faults_from, list_fault, sound}
 use Rattle.trial.specs.Fits.{Fit}
-use Rattle.trial.specs.Sets.{keys_of, keys_in, set_at}
-use Rattle.trial.specs.Sizes.{sized_keys, sized_set, sized_sets}
+use Rattle.trial.specs.Sets.{keys_of, keys_in, count_of, set_at}
 
 pub some_none : {A : Type 0} (x : A) → Some x ≡ None → ⊥
 some_none x e = let z : ◌≡◌ {A = ℕ} 0 1 = cc in omega arith
@@ -56,11 +57,9 @@ ascending : (ks : List Bytes) → keys_fault ks ≡ None → Ascending lower ks
 ascending [] e = tt
 ascending (k ∷ ks) e = ascending-from 1 k ks e
 
-each_sized : (ks : List Bytes) → sized_keys ks ≡ true → All (λ k. length k ≡ 32) ks
-each_sized [] e = All-nil (λ (k : Bytes). length k ≡ 32)
-each_sized (k ∷ ks) e =
-    let both = and_parts (eqb (length k) 32) (sized_keys ks) e in
-    All-cons (λ (k : Bytes). length k ≡ 32) k ks (eqb-true (length k) 32 both.0) (each_sized ks both.1)
+each_sized : (ks : List PublicKey) → All (λ k. length k ≡ 32) (key_bytes ks)
+each_sized [] = All-nil (λ (k : Bytes). length k ≡ 32)
+each_sized (k ∷ ks) = All-cons (λ (k : Bytes). length k ≡ 32) k.bytes (key_bytes ks) k.sized (each_sized ks)
 
 own_below : (n : ℕ) (me : Option Participant) → own_fault n me ≡ None → (p : Participant) → me ≡ Some p → p.0 < n
 own_below n None e p is = absurd (some_none p (sym is))
@@ -69,39 +68,35 @@ own_below n (Some q) e p is =
     let below = ltb-true q.0 n (passed (ltb q.0 n) OwnSigner e) in
     subst (λ (r : Participant). r.0 < n) same below
 
-fit : (s : EpochSet) → set_fault s ≡ None → sized_set s ≡ true → Fit s
-fit s e sizes =
-    let first = neither (size_fault s.n) (or_else (keys_fault (keys_in s)) (own_fault s.n s.me)) e in
-    let second = neither (keys_fault (keys_in s)) (own_fault s.n s.me) first.1 in
-    let bounds = number_of-keys s.n first.0 in
-    let sized = and_parts (eqb (length s.keys) 16) (sized_keys (keys_in s)) sizes in
-    let room = eqb-true (length s.keys) 16 sized.0 in
-    let count : length (keys_in s) ≡ s.n =
-    length-map (keys_of s) (λ (k : PublicKey). k.bytes) ∙ length-take-le s.n s.keys (omega arith) in
+fit : (s : EpochSet) → set_fault s ≡ None → Fit s
+fit s e =
+    let first = neither (size_fault (count_of s)) (or_else (keys_fault (keys_in s)) (own_fault (count_of s) s.me)) e in
+    let second = neither (keys_fault (keys_in s)) (own_fault (count_of s) s.me) first.1 in
+    let bounds = number_of-keys (count_of s) first.0 in
+    let count : length (keys_in s) ≡ count_of s = length-map (keys_of s) (λ (k : PublicKey). k.bytes) in
     record {
       keys = record {
         least = omega arith;
         most = omega arith;
-        sized = each_sized (keys_in s) sized.1;
+        sized = each_sized (keys_of s);
         ascending = ascending (keys_in s) second.0;
       };
       count = count;
       least = bounds.0;
       most = bounds.1;
-      own = own_below s.n s.me second.1;
+      own = own_below (count_of s) s.me second.1;
     }
 
-fits-from : (i : ℕ) (p : Option ℕ) (ss : List EpochSet) → faults_from i p ss ≡ None → sized_sets ss ≡ true → (e : ℕ) (s : EpochSet) → set_at e ss ≡ Some s → Fit s
-fits-from i p [] none sizes e s is = absurd (some_none s (sym is))
-fits-from i p (t ∷ ss) none sizes e s is =
+fits-from : (i : ℕ) (p : Option ℕ) (ss : List EpochSet) → faults_from i p ss ≡ None → (e : ℕ) (s : EpochSet) → set_at e ss ≡ Some s → Fit s
+fits-from i p [] none e s is = absurd (some_none s (sym is))
+fits-from i p (t ∷ ss) none e s is =
     let both = neither (placed i (fault_after p t)) (faults_from (suc i) (Some t.epoch.0) ss) none in
     let here = neither (epoch_fault p t.epoch.0) (set_fault t) (unplaced i (fault_after p t) both.0) in
-    let sized = and_parts (sized_set t) (sized_sets ss) sizes in
     ⊎_elim
     (λ this.
     let same : t ≡ s = cc (cond-true (eqb t.epoch.0 e) (Some t) (set_at e ss) this) in
-    subst Fit same (fit t here.1 sized.0))
-    (λ other. fits-from (suc i) (Some t.epoch.0) ss both.1 sized.1 e s (sym (cond-false (eqb t.epoch.0 e) (Some t) (set_at e ss) other) ∙ is))
+    subst Fit same (fit t here.1))
+    (λ other. fits-from (suc i) (Some t.epoch.0) ss both.1 e s (sym (cond-false (eqb t.epoch.0 e) (Some t) (set_at e ss) other) ∙ is))
     (cases_Bool (eqb t.epoch.0 e))
 
 none_there : {A : Type 0} (o : Option A) → not (is_some o) ≡ true → o ≡ None
@@ -109,6 +104,11 @@ none_there None e = refl
 none_there (Some x) e = let z : ◌≡◌ {A = Bool} false true = e in absurd (let y : ◌≡◌ {A = ℕ} 0 1 = cc in omega arith)
 
 -- every set that a sound list answers fits
-pub fits : (ss : List EpochSet) → sound ss ≡ true → sized_sets ss ≡ true → (e : ℕ) (s : EpochSet) → set_at e ss ≡ Some s → Fit s
+pub fits : (ss : List EpochSet) → sound ss ≡ true → (e : ℕ) (s : EpochSet) → set_at e ss ≡ Some s → Fit s
 unfolding list_fault
-fits ss none sizes e s is = fits-from 0 None ss (none_there (faults_from 0 None ss) none) sizes e s is
+fits ss none e s is = fits-from 0 None ss (none_there (faults_from 0 None ss) none) e s is
+
+-- so does the one that was found, if there is one
+pub fit_found : (ss : List EpochSet) → sound ss ≡ true → (e : ℕ) (o : Option EpochSet) → option_map (λ (s : EpochSet). s) o ≡ set_at e ss → IfSome o Fit
+fit_found ss none e None is = tt
+fit_found ss none e (Some s) is = fits ss none e s (sym is)

@@ -11,7 +11,7 @@ use Rattle.tags.specs.Tags.{signature_of}
 use Rattle.tags.specs.Words.{eight_bytes}
 use Rattle.trial.specs.declared.epoch_set.EpochSet.{EpochSet}
 use Rattle.trial.specs.Fits.{Fit}
-use Rattle.trial.specs.Sets.{keys_in}
+use Rattle.trial.specs.Sets.{keys_in, count_of}
 use Rattle.trial.specs.Trials.{keys_among, own_among, tagged, accepted_among, signed_by}
 use Rattle.trial.proofs.Checked.{some_none}
 
@@ -32,7 +32,7 @@ set-kept (Some s) fit ks e = let same : keys_in s ≡ ks = cc in subst KeySet sa
 pub size-kept : (o : Option EpochSet) (i h : ℕ) (d s : Bytes) → accepted_among o i h d s ≡ true → length s ≡ 64
 size-kept None i h d s e = absurd (false≢true e)
 size-kept (Some t) i h d s e =
-    let both = and_parts (ltb i t.n) (bytes_eq (tagged i h d) s) e in
+    let both = and_parts (ltb i (count_of t)) (bytes_eq (tagged i h d) s) e in
     sym (ap length ((bytes_eq-Decides (tagged i h d) s).0 both.1)) ∙ tagged-length i h d
 
 pub member-kept : (o : Option EpochSet) → ((s : EpochSet) → o ≡ Some s → Fit s) → (i : ℕ) → own_among o ≡ Some i → (ks : List Bytes) × (keys_among o ≡ Some ks) × (i < length ks)
@@ -52,7 +52,7 @@ signs-kept (Some s) fit i h d e =
       tagged i h d,
       ap (λ (x : Option ℕ). signed_by x h d) e,
       tagged-length i h d,
-      and_from (ltb i s.n) (bytes_eq (tagged i h d) (tagged i h d)) (lt-ltb i s.n (omega (arith, below, p.2))) ((bytes_eq-Decides (tagged i h d) (tagged i h d)).1 refl),
+      and_from (ltb i (count_of s)) (bytes_eq (tagged i h d) (tagged i h d)) (lt-ltb i (count_of s) (omega (arith, below, p.2))) ((bytes_eq-Decides (tagged i h d) (tagged i h d)).1 refl),
     )
 
 pub silent-kept : (o : Option ℕ) (h : ℕ) (d : Bytes) → o ≡ None → signed_by o h d ≡ None

@@ -1,3 +1,2 @@
 pub mod Checked
 pub mod Kept
-pub mod Sets

@@ -1,5 +1,5 @@
 -- What is wrong with a list of epochs: the first fault, in the order of the list. Assumes nothing.
-use Rattle.std.specs.Prelude.{ℕ, suc, Bool, cond, not, List, [], ◌∷◌, is_some, Some, None, Option, ◌==◌, nat_lt}
+use Rattle.std.specs.Prelude.{ℕ, suc, Bool, cond, not, List, [], ◌∷◌, is_some, Some, None, Option, Ok, Err, Result, ◌==◌, nat_lt}
 use Rattle.std.specs.Str.{bytes_eq}
 use Rattle.types.specs.Numbers.{Participant}
 use Rattle.table.specs.Keys.{lower}
@@ -8,12 +8,17 @@ use Rattle.trial.specs.declared.epoch_set.EpochSet.{EpochSet}
 use Rattle.trial.specs.declared.fault.Fault.{Fault}
 use Rattle.trial.specs.declared.fault.Fault.TheVariants.{FewKeys, ManyKeys, EqualKeys, UnsortedKeys, OwnSigner, EpochTwice, EpochBack}
 use Rattle.trial.specs.declared.fault.ListFault.{ListFault}
-use Rattle.trial.specs.Sets.{keys_in}
+use Rattle.trial.specs.Sets.{keys_in, count_of}
 
 -- the first of two, if there is one
 abbrev pub or_else : {A : Type 0} → Option A → Option A → Option A
 or_else None o = o
 or_else (Some x) o = Some x
+
+-- what a check of something with this fault answers, or with none
+abbrev pub checked : {A : Type 0} → Option A → Result (Unit {0}) A
+checked None = Ok tt
+checked (Some x) = Err x
 
 -- a set has 2 to 16 keys
 abbrev pub size_fault : ℕ → Option Fault
@@ -38,7 +43,7 @@ own_fault n None = None
 own_fault n (Some p) = cond (nat_lt p.0 n) None (Some OwnSigner)
 
 abbrev pub set_fault : EpochSet → Option Fault
-set_fault s = or_else (size_fault s.n) (or_else (keys_fault (keys_in s)) (own_fault s.n s.me))
+set_fault s = or_else (size_fault (count_of s)) (or_else (keys_fault (keys_in s)) (own_fault (count_of s) s.me))
 
 -- an epoch is above the one before it
 abbrev pub epoch_fault : Option ℕ → ℕ → Option Fault

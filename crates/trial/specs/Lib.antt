@@ -3,5 +3,4 @@ pub mod Faults
 pub mod Fits
 pub mod Lends
 pub mod Sets
-pub mod Sizes
 pub mod Trials

@@ -6,7 +6,7 @@ use Rattle.provider.specs.Answers.{Bytes}
 use Rattle.provider.specs.Values.{number}
 use Rattle.tags.specs.Tags.{tag_of, signature_of}
 use Rattle.trial.specs.declared.epoch_set.EpochSet.{EpochSet}
-use Rattle.trial.specs.Sets.{keys_in, set_at}
+use Rattle.trial.specs.Sets.{keys_in, count_of, set_at}
 
 -- the keys of a set, if there is one
 abbrev pub keys_among : Option EpochSet → Option (List Bytes)
@@ -24,7 +24,7 @@ tagged i h d = signature_of (tag_of i h d)
 -- whether a signature is that of a signer of the set
 abbrev pub accepted_among : Option EpochSet → ℕ → ℕ → Bytes → Bytes → Bool
 accepted_among None i h d s = false
-accepted_among (Some e) i h d s = nat_lt i e.n && bytes_eq (tagged i h d) s
+accepted_among (Some e) i h d s = nat_lt i (count_of e) && bytes_eq (tagged i h d) s
 
 -- what a signer signs, if there is one
 abbrev pub signed_by : Option ℕ → ℕ → Bytes → Option Bytes

@@ -2,13 +2,12 @@
 use types::{Epoch, Participant, PublicKey};
 
 /// The signers of an epoch.
-#[derive(Clone, Copy)]
-pub struct EpochSet {
+#[derive(Clone, Copy, Debug, PartialEq, Eq)]
+pub struct EpochSet<'a> {
+    /// The epoch.
     pub epoch: Epoch,
-    /// The keys in ascending order, and behind them what does not belong to the set.
-    pub keys: [PublicKey; 16],
-    /// How many of the keys are the set.
-    pub n: usize,
+    /// The keys of its signers, in ascending order.
+    pub keys: &'a [PublicKey],
     /// The own signer, if there is one.
     pub me: Option<Participant>,
 }

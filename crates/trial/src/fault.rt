@@ -1,7 +1,7 @@
 //! What can be wrong with a list of epochs.
 
 /// What is wrong with an epoch.
-#[derive(Clone, Copy)]
+#[derive(Clone, Copy, Debug, PartialEq, Eq)]
 pub enum Fault {
     /// It has fewer than two keys.
     FewKeys,
@@ -20,8 +20,10 @@ pub enum Fault {
 }
 
 /// The first fault of a list, and the place of the epoch that has it.
-#[derive(Clone, Copy)]
+#[derive(Clone, Copy, Debug, PartialEq, Eq)]
 pub struct ListFault {
+    /// The place.
     pub at: usize,
+    /// The fault.
     pub fault: Fault,
 }

@@ -1,100 +1,61 @@
-//! What is wrong with the keys of one epoch.
-ghost use Rattle.std.specs.Prelude.{◌≡◌, true, length, None};
-ghost use Rattle.std.specs.Str.{bytes_eq};
+//! What is wrong with the signers of one epoch.
+ghost use Rattle.std.specs.Prelude.{◌≡◌};
 ghost use Rattle.provider.specs.Values.{key_bytes};
-ghost use Rattle.trial.specs.Faults.{neighbour_fault, key_faults, keys_fault, own_fault, set_fault};
-ghost use Rattle.trial.specs.Sizes.{sized_keys, sized_set};
+ghost use Rattle.trial.specs.Faults.{checked, neighbour_fault, key_faults, keys_fault, own_fault, set_fault};
 
 use crate::{EpochSet, Fault};
 use table::Key;
 use types::{Participant, PublicKey};
 
-/// Whether two keys are one; each has 32 bytes.
-fn same_key(low: &PublicKey, high: &PublicKey) -> bool
-    ensures same { result ≡ bytes_eq low.now.bytes high.now.bytes }
-    ensures sized { length high.now.bytes ≡ 32 }
+/// Refuses the key at place `at` where it is not above the one before it.
+fn check_neighbour(at: usize, before: &PublicKey, key: &PublicKey) -> Result<(), Fault>
+    ensures { result ≡ checked (neighbour_fault at before.now.bytes key.now.bytes) }
 {
-    low.bytes == high.bytes
-}
-
-/// What is wrong with the key at place `at` and the one before it.
-fn neighbour_fault(at: usize, low: &PublicKey, high: &PublicKey) -> Option<Fault>
-    ensures fault { result ≡ neighbour_fault at low.now.bytes high.now.bytes }
-    ensures sized { length high.now.bytes ≡ 32 }
-{
-    if same_key(low, high) {
-        Some(Fault::EqualKeys(at))
-    } else if low.before(high) {
-        None
+    if before.same(key) {
+        Err(Fault::EqualKeys(at))
+    } else if before.before(key) {
+        Ok(())
     } else {
-        Some(Fault::UnsortedKeys(at))
+        Err(Fault::UnsortedKeys(at))
     }
 }
 
-/// What is wrong with the order of the keys `rest` that stand after `first`.
-fn rest_fault(first: PublicKey, rest: &[PublicKey]) -> Option<Fault>
-    ensures fault { result ≡ key_faults 1 first.bytes (key_bytes rest.now) }
-    ensures sized { result ≡ None → sized_keys (key_bytes rest.now) ≡ true }
+/// Refuses keys that do not ascend.
+fn check_keys(keys: &[PublicKey]) -> Result<(), Fault>
+    ensures { result ≡ checked (keys_fault (key_bytes keys.now)) }
 {
-    let mut last = first;
+    let [first, rest @ ..] = keys else {
+        return Ok(());
+    };
+    let mut before = first;
     for (i, key) in rest.iter().enumerate() {
-        match neighbour_fault(i + 1, &last, key) {
-            Some(fault) => return Some(fault),
-            None => last = *key,
-        }
+        check_neighbour(i + 1, before, key)?;
+        before = key;
     }
-    None
+    Ok(())
 }
 
-/// The key by value; it has 32 bytes.
-fn by_value(key: &PublicKey) -> PublicKey
-    ensures value { result.bytes ≡ key.now.bytes }
-    ensures sized { length key.now.bytes ≡ 32 }
+/// Refuses an own signer that is none of `n`.
+fn check_own(n: usize, me: Option<Participant>) -> Result<(), Fault>
+    ensures { result ≡ checked (own_fault n me) }
 {
-    PublicKey::new(key.bytes)
+    if me.is_some_and(|signer| signer.0 >= n as u64) {
+        return Err(Fault::OwnSigner);
+    }
+    Ok(())
 }
 
-/// What is wrong with the order of the keys.
-fn keys_fault(keys: &[PublicKey]) -> Option<Fault>
-    ensures fault { result ≡ keys_fault (key_bytes keys.now) }
-    ensures sized { result ≡ None → sized_keys (key_bytes keys.now) ≡ true }
+/// Refuses a set that has a fault by itself.
+pub(crate) fn check_set(set: &EpochSet) -> Result<(), Fault>
+    ensures { result ≡ checked (set_fault set.now) }
 {
-    match keys {
-        [first, rest @ ..] => rest_fault(by_value(first), rest),
-        [] => None,
+    let n = set.keys.len();
+    if n < 2 {
+        return Err(Fault::FewKeys);
     }
-}
-
-/// What is wrong with an own signer of `n`.
-fn own_fault(n: usize, me: Option<Participant>) -> Option<Fault>
-    ensures { result ≡ own_fault n me }
-{
-    match me {
-        Some(signer) => {
-            if signer.0 < n as u64 {
-                None
-            } else {
-                Some(Fault::OwnSigner)
-            }
-        }
-        None => None,
+    if n > 16 {
+        return Err(Fault::ManyKeys);
     }
-}
-
-/// What is wrong with a set by itself.
-pub(crate) fn set_fault(set: &EpochSet) -> Option<Fault>
-    ensures fault { result ≡ set_fault set.now }
-    ensures sized { result ≡ None → sized_set set.now ≡ true }
-{
-    if set.n < 2 {
-        return Some(Fault::FewKeys);
-    }
-    if set.n > 16 {
-        return Some(Fault::ManyKeys);
-    }
-    let fault = keys_fault(&set.keys[0..set.n]);
-    if fault.is_some() {
-        return fault;
-    }
-    own_fault(set.n, set.me)
+    check_keys(set.keys)?;
+    check_own(n, set.me)
 }

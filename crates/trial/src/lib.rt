@@ -11,4 +11,4 @@ mod lists;
 pub use epoch_list::EpochList;
 pub use epoch_set::EpochSet;
 pub use fault::{Fault, ListFault};
-pub use list_faults::list_fault;
+pub use list_faults::check;

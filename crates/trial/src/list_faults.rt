@@ -1,53 +1,39 @@
 //! What is wrong with a list of epochs.
-ghost use Rattle.std.specs.Prelude.{◌≡◌, true, None};
+ghost use Rattle.std.specs.Prelude.{◌≡◌};
 ghost use Rattle.trial.specs.Epochs.{epoch_number};
-ghost use Rattle.trial.specs.Faults.{epoch_fault, fault_after, list_fault};
-ghost use Rattle.trial.specs.Sizes.{sized_set, sized_sets};
+ghost use Rattle.trial.specs.Faults.{checked, epoch_fault, fault_after, list_fault};
 
-use crate::key_faults::set_fault;
+use crate::key_faults::check_set;
 use crate::{EpochSet, Fault, ListFault};
 use types::Epoch;
 
-/// What is wrong with an epoch and the one before it.
-fn epoch_fault(before: Option<Epoch>, epoch: Epoch) -> Option<Fault>
-    ensures { result ≡ epoch_fault (epoch_number before) epoch.0 }
+/// Refuses an epoch that is not above the one before it.
+fn check_epoch(before: Option<Epoch>, epoch: Epoch) -> Result<(), Fault>
+    ensures { result ≡ checked (epoch_fault (epoch_number before) epoch.0) }
 {
     match before {
-        Some(before) => {
-            if before.0 == epoch.0 {
-                Some(Fault::EpochTwice)
-            } else if before.0 < epoch.0 {
-                None
-            } else {
-                Some(Fault::EpochBack)
-            }
-        }
-        None => None,
+        Some(before) if before == epoch => Err(Fault::EpochTwice),
+        Some(before) if before > epoch => Err(Fault::EpochBack),
+        _ => Ok(()),
     }
 }
 
-/// What is wrong with a set that stands after the epoch `before`.
-fn fault_after(before: Option<Epoch>, set: &EpochSet) -> Option<Fault>
-    ensures fault { result ≡ fault_after (epoch_number before) set.now }
-    ensures sized { result ≡ None → sized_set set.now ≡ true }
+/// Refuses a set that has a fault after the epoch `before`.
+fn check_after(before: Option<Epoch>, set: &EpochSet) -> Result<(), Fault>
+    ensures { result ≡ checked (fault_after (epoch_number before) set.now) }
 {
-    match epoch_fault(before, set.epoch) {
-        Some(fault) => Some(fault),
-        None => set_fault(set),
-    }
+    check_epoch(before, set.epoch)?;
+    check_set(set)
 }
 
-/// The first fault of the list, if it has one.
-pub fn list_fault(sets: &[EpochSet]) -> Option<ListFault>
-    ensures fault { result ≡ list_fault sets.now }
-    ensures sized { result ≡ None → sized_sets sets.now ≡ true }
+/// Refuses a list that has a fault, and answers the first.
+pub fn check(sets: &[EpochSet]) -> Result<(), ListFault>
+    ensures { result ≡ checked (list_fault sets.now) }
 {
-    let mut last = None;
+    let mut before = None;
     for (i, set) in sets.iter().enumerate() {
-        match fault_after(last, set) {
-            Some(fault) => return Some(ListFault { at: i, fault }),
-            None => last = Some(set.epoch),
-        }
+        check_after(before, set).map_err(|fault| ListFault { at: i, fault })?;
+        before = Some(set.epoch);
     }
-    None
+    Ok(())
 }

@@ -1,11 +1,17 @@
-use Rattle.std.proofs.Common.{arith}
+use Rattle.std.proofs.Common.{Some, sym, ap, ◌∙◌}
+use Rattle.types.specs.Numbers.{Participant}
+use Rattle.provider.specs.Values.{number}
 use Rattle.provider.proofs.Places.{found}
 use Rattle.provider.proofs.positions.position.Goals as goal
 
-pub returns-in-Some : goal.returns-in-Some
-returns-in-Some c = λ known.
-    found c.args.key.now c.args.keys.now c.enter.new.rows _ (c.enter.ensures (omega arith)) known.ascending c.in-Some.ensures.placed
+pub returns-in_err-place : goal.returns-in_err-place
+returns-in_err-place c = λ known.
+    ap number c.from_residual.ensures
+    ∙ sym c.in_err-place.was
+    ∙ found c.args.key.now c.args.keys.now c.rows.result _ c.rows.ensures known.ascending c.position.ensures.placed
 
-pub returns-in-None : goal.returns-in-None
-returns-in-None c = λ known.
-    found c.args.key.now c.args.keys.now c.enter.new.rows _ (c.enter.ensures (omega arith)) known.ascending c.in-None.ensures.placed
+pub returns : goal.returns
+returns c = λ known.
+    ap (λ (p : Participant). Some p.0) c.new.ensures
+    ∙ sym c.in_ok-place.was
+    ∙ found c.args.key.now c.args.keys.now c.rows.result _ c.rows.ensures known.ascending c.position.ensures.placed

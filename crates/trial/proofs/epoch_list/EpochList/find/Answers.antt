@@ -1,10 +1,12 @@
-use Rattle.std.proofs.Common.{sym}
-use Rattle.trial.proofs.Checked.{fits}
-use Rattle.trial.proofs.Sets.{found_here}
+use Rattle.std.proofs.Common.{rules, eqb, tests}
+use Rattle.std.proofs.lemmas.Iterator.{YieldsList-from_slice}
+use Rattle.std.proofs.lemmas.Iterator.Consumers.{YieldsList-from_copied}
+use Rattle.std.proofs.lemmas.Iterator.Search.{find_from_yields_List}
+use Rattle.trial.proofs.Checked.{fit_found}
 use Rattle.trial.proofs.epoch_list.EpochList.find.Goals as goal
 
-pub returns-then-set-epoch-clause-fit : goal.returns-then-set-epoch-clause-fit
-returns-then-set-epoch-clause-fit c =
-    let held = c.args.self.now in
-    let found = found_here held.sets.now c.loop-set.set-index _ c.loop-set-test.true _ _ c.if-set-epoch.true c.loop-set.invariant in
-    fits held.sets.now held.sound held.sized _ _ (sym found)
+pub returns-clause-fit : goal.returns-clause-fit
+returns-clause-fit c =
+    let list = c.args.self.now in
+    fit_found list.sets.now list.sound c.args.epoch.0 c.find.result
+    (find_from_yields_List (λ s. eqb s.epoch.0 c.args.epoch.0) _ _ _ c.find.ensures.ran (YieldsList-from_copied (YieldsList-from_slice list.sets.now cc)) (λ x b q k. search (rules, tests)))

@@ -4,4 +4,4 @@ use Rattle.trial.proofs.epoch_list.EpochList.new.Goals as goal
 
 pub invariant_of-result : goal.invariant_of-result
 unfolding list_fault
-invariant_of-result c = record { sound = refl; sized = refl }
+invariant_of-result c = record { sound = refl }
