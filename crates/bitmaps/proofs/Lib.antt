@@ -2,7 +2,6 @@ pub mod Enoughs
 pub mod Judged
 pub mod Listed
 pub mod Mapped
-pub mod Placed
 pub mod Powers
 pub mod Returns
 pub mod Turns

@@ -1,6 +1,6 @@
 -- The signers of a map, one bit at a time. Assumes nothing.
-use Rattle.std.proofs.Common.{◌≡◌, ℕ, suc, ◌+◌, ◌-◌, ◌<◌, ◌≤◌, true, false, cond, List, [], ◌∷◌, ◌++◌, length, take, set, sym, refl, ap, ◌∙◌, add-one, arith}
-use Rattle.std.proofs.lemmas.List.{append-nil, append_assoc, take_more_set}
+use Rattle.std.proofs.Common.{◌≡◌, ℕ, suc, ◌+◌, ◌-◌, ◌<◌, ◌≤◌, true, false, cond, List, [], ◌∷◌, ◌++◌, sym, refl, ap, ◌∙◌, add-one, arith}
+use Rattle.std.proofs.lemmas.List.{append-nil, append_assoc}
 use Rattle.std.proofs.lemmas.Bool.{cond-true, cond-false}
 use Rattle.bitmaps.specs.Maps.{bit, standing_from, standing}
 
@@ -12,29 +12,26 @@ step m i within =
     ap (λ (k : ℕ). standing_from k i m) count
     ∙ ap (λ (j : ℕ). cond (bit i m) (i ∷ []) [] ++ standing_from (16 - (i + 1)) j m) (sym (add-one i))
 
-pub listed_more : (m i len : ℕ) (list w : List ℕ) → i < 16 → len < length list → bit i m ≡ true → take len list ++ standing_from (16 - i) i m ≡ w
-    → take (len + 1) (set list len i) ++ standing_from (16 - (i + 1)) (i + 1) m ≡ w
-listed_more m i len list w within room stands whole =
+pub listed_more : (m i : ℕ) (list w : List ℕ) → i < 16 → bit i m ≡ true → list ++ standing_from (16 - i) i m ≡ w → (list ++ (i ∷ [])) ++ standing_from (16 - (i + 1)) (i + 1) m ≡ w
+listed_more m i list w within stands whole =
     let rest : List ℕ = standing_from (16 - (i + 1)) (i + 1) m in
-    ap (λ (front : List ℕ). front ++ rest) (take_more_set list len i room)
-    ∙ append_assoc (take len list) (i ∷ []) rest
-    ∙ ap (λ (back : List ℕ). take len list ++ (back ++ rest)) (sym (cond-true (bit i m) (i ∷ []) [] stands))
-    ∙ ap (λ (back : List ℕ). take len list ++ back) (sym (step m i within))
+    append_assoc list (i ∷ []) rest
+    ∙ ap (λ (back : List ℕ). list ++ (back ++ rest)) (sym (cond-true (bit i m) (i ∷ []) [] stands))
+    ∙ ap (λ (back : List ℕ). list ++ back) (sym (step m i within))
     ∙ whole
 
-pub listed_same : (m i len : ℕ) (list w : List ℕ) → i < 16 → bit i m ≡ false → take len list ++ standing_from (16 - i) i m ≡ w
-    → take len list ++ standing_from (16 - (i + 1)) (i + 1) m ≡ w
-listed_same m i len list w within falls whole =
+pub listed_same : (m i : ℕ) (list w : List ℕ) → i < 16 → bit i m ≡ false → list ++ standing_from (16 - i) i m ≡ w → list ++ standing_from (16 - (i + 1)) (i + 1) m ≡ w
+listed_same m i list w within falls whole =
     let rest : List ℕ = standing_from (16 - (i + 1)) (i + 1) m in
-    ap (λ (back : List ℕ). take len list ++ (back ++ rest)) (sym (cond-false (bit i m) (i ∷ []) [] falls))
-    ∙ ap (λ (back : List ℕ). take len list ++ back) (sym (step m i within))
+    ap (λ (back : List ℕ). list ++ (back ++ rest)) (sym (cond-false (bit i m) (i ∷ []) [] falls))
+    ∙ ap (λ (back : List ℕ). list ++ back) (sym (step m i within))
     ∙ whole
 
-pub listed-all : (m i len : ℕ) (list w : List ℕ) → 16 ≤ i → take len list ++ standing_from (16 - i) i m ≡ w → take len list ≡ w
+pub listed-all : (m i : ℕ) (list w : List ℕ) → 16 ≤ i → list ++ standing_from (16 - i) i m ≡ w → list ≡ w
 unfolding standing_from
-listed-all m i len list w past whole =
+listed-all m i list w past whole =
     let none : 16 - i ≡ 0 = omega arith in
-    sym (append-nil (take len list)) ∙ ap (λ (k : ℕ). take len list ++ standing_from k i m) (sym none) ∙ whole
+    sym (append-nil list) ∙ ap (λ (k : ℕ). list ++ standing_from k i m) (sym none) ∙ whole
 
 pub listed_none : (m : ℕ) → standing_from 16 0 m ≡ standing m
 unfolding standing

@@ -1,5 +1,6 @@
 -- Signers as a map of sixteen bits, bit i for signer i. Assumes nothing.
 use Rattle.std.specs.Prelude.{◌≡◌, ℕ, zero, suc, ◌+◌, ◌*◌, ◌/◌, ◌%◌, ◌^◌, ◌≤◌, Bool, true, cond, ◌&&◌, List, [], ◌∷◌, ◌++◌, length, Some, None, Option, ◌==◌, nat_le, nat_lt, slice_index}
+use Rattle.std.specs.List.{list_all}
 use Rattle.tips.specs.Faults.{quorum}
 
 -- whether bit i of m stands
@@ -43,8 +44,7 @@ map_for n is = cond (nat_le n 16 && enough n is) (Some (map_of is)) None
 
 -- whether every signer is below n
 abbrev pub all_below : ℕ → List ℕ → Bool
-all_below n [] = true
-all_below n (i ∷ is) = nat_lt i n && all_below n is
+all_below n is = list_all (λ i. nat_lt i n) is
 
 -- a map gives its signers back, and so do its two bytes
 abbrev pub MapsReturn : Type 0

@@ -2,9 +2,9 @@
 ghost use Rattle.std.specs.Prelude.{◌≡◌, ◌+◌, ◌^◌, ◌<◌, ◌&&◌, nat_le, nat_lt};
 ghost use Rattle.bitmaps.specs.Attested.{signers_in};
 ghost use Rattle.bitmaps.specs.Maps.{map_for};
-ghost use Rattle.bitmaps.specs.Parts.{placed_at};
+ghost use Rattle.bitmaps.specs.Parts.{appended};
 
-use provider::Attestation;
+use provider::{Attestation, Certificate};
 
 /// Whether the signer may come next: it is `next` or above, and below `n`.
 fn in_turn(next: u64, n: usize, signer: u64) -> bool
@@ -25,10 +25,7 @@ fn with_signer(map: u16, signer: u64) -> u16
 pub fn bitmap(n: usize, attestations: &[Attestation]) -> Option<u16>
     ensures { result ≡ map_for n (signers_in attestations.now) }
 {
-    if n > 16 {
-        return None;
-    }
-    if attestations.len() < tips::quorum(n) {
+    if n > 16 || attestations.len() < tips::quorum(n) {
         return None;
     }
     let mut next = 0;
@@ -44,11 +41,9 @@ pub fn bitmap(n: usize, attestations: &[Attestation]) -> Option<u16>
     Some(map)
 }
 
-/// Writes a part of a certificate at its place; nothing where there is no room for it.
-pub fn place(bytes: &mut [u8], at: usize, part: &[u8])
-    ensures { bytes.new ≡ placed_at at part.now bytes.old }
+/// Writes a part behind what the certificate holds; nothing where there is no room for it.
+pub fn append(certificate: &mut Certificate, part: &[u8])
+    ensures { certificate.new.bytes.items ≡ appended part.now certificate.old.bytes.items }
 {
-    if at <= bytes.len() && part.len() <= bytes.len() - at {
-        bytes[at..at + part.len()].copy_from_slice(part);
-    }
+    let _ = certificate.bytes.try_extend_from_slice(part);
 }

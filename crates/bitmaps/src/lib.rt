@@ -8,14 +8,13 @@ mod rejection;
 mod signer_list;
 mod splits;
 
-pub use joins::{bitmap, place};
+pub use joins::{append, bitmap};
 pub use rejection::Rejection;
 pub use signer_list::Signers;
 pub use splits::{all_below, signers};
 
 /// A map gives its signers back.
-pub fn maps_return() -> u8
+pub fn maps_return()
     ensures { MapsReturn }
 {
-    0
 }

@@ -1,7 +1,7 @@
 //! Why a certificate is rejected.
 
 /// The first reason against a certificate, in this order.
-#[derive(Clone, Copy)]
+#[derive(Clone, Copy, Debug, PartialEq, Eq)]
 pub enum Rejection {
     /// The epoch is unknown.
     UnknownEpoch,

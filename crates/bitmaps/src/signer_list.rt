@@ -1,11 +1,9 @@
 //! The signers of a map, in ascending order.
-ghost use Rattle.std.specs.Prelude.{◌≤◌};
+use arrayvec::ArrayVec;
 
 /// At most sixteen signers.
-#[derive(Clone, Copy)]
+#[derive(Clone, Debug, PartialEq, Eq, Drop)]
 pub struct Signers {
-    pub list: [u8; 16],
-    /// How many of the list are the signers.
-    pub len: usize,
-    ghost within: { len ≤ 16 },
+    /// The signers.
+    pub list: ArrayVec<u8, 16>,
 }
