@@ -1,3 +1,4 @@
+pub mod Appended
 pub mod Enoughs
 pub mod Judged
 pub mod Listed

@@ -1,12 +1,9 @@
 -- A certificate's signatures, one signer at a time. Assumes nothing.
-use Rattle.std.proofs.Common.{◌≡◌, ℕ, ◌+◌, ◌-◌, ◌*◌, ◌<◌, ◌≤◌, Bool, true, false, ◌&&◌, List, length, get_or, take, drop, Some, Option, sym, ap, ◌∙◌, arith}
+use Rattle.std.proofs.Common.{◌≡◌, ℕ, ◌+◌, ◌-◌, ◌*◌, ◌<◌, ◌≤◌, Bool, true, false, ◌&&◌, List, length, get_or, take, drop, sym, ap, ◌∙◌, arith}
 use Rattle.std.proofs.lemmas.List.{at_drop_more, drop-drop}
 use Rattle.std.proofs.lemmas.Bool.{and_left}
-use Rattle.bitmaps.proofs.Judged.{two_and_rest}
-use Rattle.bitmaps.specs.Maps.{standing}
 use Rattle.provider.specs.Answers.{Bytes}
-use Rattle.trial.specs.declared.epoch_set.EpochSet.{EpochSet}
-use Rattle.listed.specs.Judging.{each_accepted, reject_body, reject_for, reject_in}
+use Rattle.listed.specs.Judging.{each_accepted}
 
 module _ (ok : ℕ → Bytes → Bool) (is : List ℕ) (body : Bytes) (i : ℕ) (within : i < length is) where
   split : each_accepted ok (drop i is) (drop (64 * i) body) ≡ (ok (get_or is i 0) (take (64 * i + 64 - 64 * i) (drop (64 * i) body)) && each_accepted ok (drop (i + 1) is) (drop (64 * (i + 1)) body))
@@ -23,11 +20,3 @@ module _ (ok : ℕ → Bytes → Bool) (is : List ℕ) (body : Bytes) (i : ℕ) 
   pub each_stop : (w : Bool) → ok (get_or is i 0) (take (64 * i + 64 - 64 * i) (drop (64 * i) body)) ≡ false → each_accepted ok (drop i is) (drop (64 * i) body) ≡ w → false ≡ w
   each_stop w here whole =
       sym (split ∙ and_left (ok (get_or is i 0) (take (64 * i + 64 - 64 * i) (drop (64 * i) body))) (each_accepted ok (drop (i + 1) is) (drop (64 * (i + 1)) body)) here) ∙ whole
-
--- the reason against a certificate, by its map and what follows it
-pub read_apart : (o : Option EpochSet) (s : EpochSet) (ok : ℕ → Bytes → Bool) (c : Bytes) (is : List ℕ) → Some s ≡ o → 2 ≤ length c → is ≡ standing (get_or c 0 0 * 256 + get_or c 1 0)
-    → reject_body s.n ok is (take (length c - 2) (drop 2 c)) ≡ reject_in o ok c
-read_apart o s ok c is known long stands =
-    ap (λ (js : List ℕ). reject_body s.n ok js (take (length c - 2) (drop 2 c))) stands
-    ∙ ap (λ (b : Bytes). reject_for s.n ok b) (sym (two_and_rest c long))
-    ∙ ap (λ (p : Option EpochSet). reject_in p ok c) known

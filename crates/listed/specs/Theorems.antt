@@ -1,14 +1,11 @@
 -- What listed certificates show. Assumes nothing.
-use Rattle.std.specs.Prelude.{◌≡◌, ℕ, ◌≤◌, Bool, true, not, List, length, is_some, Some, None, All, Option}
-use Rattle.bitmaps.specs.declared.rejection.Rejection.{Rejection}
-use Rattle.bitmaps.specs.declared.rejection.Rejection.TheVariants.{UnknownEpoch, NoMap}
-use Rattle.bitmaps.specs.Maps.{standing}
-use Rattle.bitmaps.specs.Verdicts.{with_map, Says}
+use Rattle.std.specs.Prelude.{◌≡◌, ℕ, ◌≤◌, Bool, true, List, length, All, Option}
 use Rattle.provider.specs.Answers.{Attested, Bytes}
 use Rattle.provider.specs.Laws.{Enough, signers_of}
 use Rattle.trial.specs.declared.epoch_set.EpochSet.{EpochSet}
+use Rattle.mapped.specs.Theorems.{HasReason}
 use Rattle.listed.specs.Certificates.{certificate_of}
-use Rattle.listed.specs.Judging.{each_accepted, fits, valid_for, valid_in, reject_in}
+use Rattle.listed.specs.Judging.{size_of, each_accepted, valid_for}
 
 -- each signature has 64 bytes
 abbrev pub Sized : List Attested → Type 0
@@ -27,11 +24,6 @@ DeterminesSigners = (n : ℕ) (ps qs : List Attested) → n ≤ 16 → Enough n 
 abbrev pub DeterminesSignatures : Type 0
 DeterminesSignatures = (n : ℕ) (ps qs : List Attested) → n ≤ 16 → Enough n (signers_of ps) → Enough n (signers_of qs) → Sized ps → Sized qs → certificate_of ps ≡ certificate_of qs → ps ≡ qs
 
--- what each reason says of the epoch's set and the certificate
-abbrev pub Against : Option EpochSet → (ℕ → Bytes → Bool) → Bytes → Rejection → Type 0
-Against None ok c r = r ≡ UnknownEpoch
-Against (Some s) ok c r = with_map (r ≡ NoMap) (λ m body. Says s.n (standing m) (fits (standing m) body) (each_accepted ok (standing m) body) r) c
-
 -- a certificate is rejected exactly where there is a reason, and the reason holds
 abbrev pub Reasons : Type 0
-Reasons = (o : Option EpochSet) (ok : ℕ → Bytes → Bool) (c : Bytes) → (valid_in o ok c ≡ not (is_some (reject_in o ok c))) × ((r : Rejection) → reject_in o ok c ≡ Some r → Against o ok c r)
+Reasons = (o : Option EpochSet) (ok : ℕ → Bytes → Bool) (c : Bytes) → HasReason size_of (each_accepted ok) o c

@@ -3,21 +3,16 @@
 
 ghost use Rattle.listed.specs.Theorems.{AssembledIsAccepted, DeterminesSigners, DeterminesSignatures, Reasons};
 
-mod answers;
-mod judges;
-mod listed_provider;
-mod writes;
+mod body;
 
-pub use listed_provider::ListedProvider;
-pub use writes::certificate;
+pub use body::{Listed, ListedProvider};
 
 /// What a listed certificate shows: one that is assembled from accepted signatures is accepted, it determines its signers and their
 /// signatures, and one that is rejected has its reason.
-pub fn certificates_stand() -> u8
+pub fn certificates_stand()
     ensures accepted { AssembledIsAccepted }
     ensures signers { DeterminesSigners }
     ensures signatures { DeterminesSignatures }
     ensures reasons { Reasons }
 {
-    0
 }

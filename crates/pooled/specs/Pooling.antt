@@ -2,21 +2,18 @@
 use Rattle.std.specs.Prelude.{List}
 use Rattle.provider.specs.Answers.{Answers}
 use Rattle.trial.specs.declared.epoch_set.EpochSet.{EpochSet}
-use Rattle.trial.specs.Sets.{set_at}
-use Rattle.trial.specs.Trials.{keys_at, own_at, accepts_at, sign_at}
-use Rattle.pooled.specs.Certificates.{assemble_in}
-use Rattle.pooled.specs.Judging.{valid_in}
+use Rattle.mapped.specs.Bodies.{Meaning}
+use Rattle.mapped.specs.Mapping.{mapped}
+use Rattle.pooled.specs.Certificates.{pool_of}
+use Rattle.pooled.specs.Judging.{size_of, summed}
+
+-- a sum of tags as what stands behind the map
+abbrev pub pooling : Meaning
+pooling = record {
+  body = pool_of;
+  size = size_of;
+  good = λ o. summed;
+}
 
 abbrev pub pooled : List EpochSet → Answers
-pooled ss = record {
-  verifying = record {
-    keys = keys_at ss;
-    accepts = accepts_at ss;
-    valid = λ e h d c. valid_in (set_at e ss) h d c;
-  };
-  signing = record {
-    own = own_at ss;
-    sign = sign_at ss;
-    assemble = λ e qs. assemble_in (set_at e ss) qs;
-  };
-}
+pooled = mapped pooling

@@ -3,19 +3,14 @@
 
 ghost use Rattle.pooled.specs.Theorems.{AssembledIsAccepted, Reasons};
 
-mod answers;
-mod judges;
-mod pooled_provider;
+mod body;
 mod sums;
-mod writes;
 
-pub use pooled_provider::PooledProvider;
-pub use writes::certificate;
+pub use body::{Pooled, PooledProvider};
 
 /// What a pooled certificate shows: one that is assembled from accepted signatures is accepted, and one that is rejected has its reason.
-pub fn certificates_stand() -> u8
+pub fn certificates_stand()
     ensures accepted { AssembledIsAccepted }
     ensures reasons { Reasons }
 {
-    0
 }
