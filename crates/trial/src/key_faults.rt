@@ -7,13 +7,13 @@ use crate::{EpochSet, Fault};
 use table::Key;
 use types::{Participant, PublicKey};
 
-/// Refuses the key at place `at` where it is not above the one before it.
-fn check_neighbour(at: usize, before: &PublicKey, key: &PublicKey) -> Result<(), Fault>
-    ensures { result ≡ checked (neighbour_fault at before.now.bytes key.now.bytes) }
+/// Refuses the key `high` at place `at` where it is not above `low`, the one before it.
+fn check_neighbour(at: usize, low: &PublicKey, high: &PublicKey) -> Result<(), Fault>
+    ensures { result ≡ checked (neighbour_fault at low.now.bytes high.now.bytes) }
 {
-    if before.same(key) {
+    if low.same(high) {
         Err(Fault::EqualKeys(at))
-    } else if before.before(key) {
+    } else if low.before(high) {
         Ok(())
     } else {
         Err(Fault::UnsortedKeys(at))

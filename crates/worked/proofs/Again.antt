@@ -33,7 +33,7 @@ use Rattle.worked.specs.Again.{ToldAgain}
 
 lawful : Lawful provider
 unfolding list_fault
-lawful = keeps epochs refl refl
+lawful = keeps epochs refl
 
 -- bytes that pass the test are bytes
 abbrev are_bytes : List ℕ → Bool

@@ -1,5 +1,6 @@
 -- Four signers of one epoch under the listed provider, the first of them the engine's own. Assumes nothing.
-use Rattle.std.specs.Prelude.{ℕ, List, [], ◌∷◌, replicate, Some}
+use Rattle.std.specs.Prelude.{ℕ, List, [], ◌∷◌, replicate, Some, refl}
+use Rattle.std.specs.Borrow.{Bor}
 use Rattle.types.specs.Numbers.{epoch, participant}
 use Rattle.types.specs.Texts.{PublicKey, of_bytes}
 use Rattle.forms.specs.Values.{Ack}
@@ -16,14 +17,17 @@ abbrev pub key : ℕ → Bytes
 key i = replicate 32 i
 
 abbrev pub public_key : ℕ → PublicKey
-public_key i = of_bytes (key i)
+public_key i = of_bytes (key i) refl
 
--- epoch 0: signers 0 to 3, own signer 0; the other places for keys are not of the set
+-- keys as they are lent, wherever they lie
+abbrev pub lent : List PublicKey → Bor (List PublicKey)
+lent ks = record { ref_ptr = (0, 0); now = ks }
+
+-- epoch 0: signers 0 to 3, own signer 0
 abbrev pub signers : EpochSet
 signers = record {
   epoch = epoch 0;
-  keys = public_key 0 ∷ public_key 1 ∷ public_key 2 ∷ public_key 3 ∷ replicate 12 (public_key 0);
-  n = 4;
+  keys = lent (public_key 0 ∷ public_key 1 ∷ public_key 2 ∷ public_key 3 ∷ []);
   me = Some (participant 0);
 }
 
