@@ -1,6 +1,5 @@
 pub mod Appended
 pub mod Enoughs
-pub mod Judged
 pub mod Listed
 pub mod Mapped
 pub mod Powers

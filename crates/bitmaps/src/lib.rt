@@ -16,5 +16,4 @@ pub use splits::{all_below, signers};
 /// A map gives its signers back.
 pub fn maps_return()
     ensures { MapsReturn }
-{
-}
+{}

@@ -1,7 +1,6 @@
 -- Which listed certificates are accepted, and why another is not. Assumes nothing.
-use Rattle.std.specs.Prelude.{ℕ, ◌*◌, Bool, true, ◌&&◌, List, [], ◌∷◌, take, drop, Option}
+use Rattle.std.specs.Prelude.{ℕ, ◌*◌, Bool, true, ◌&&◌, List, [], ◌∷◌, take, drop}
 use Rattle.provider.specs.Answers.{Bytes}
-use Rattle.trial.specs.declared.epoch_set.EpochSet.{EpochSet}
 use Rattle.mapped.specs.Judging as mapped
 
 -- 64 bytes for each signer

@@ -14,5 +14,4 @@ pub fn certificates_stand()
     ensures signers { DeterminesSigners }
     ensures signatures { DeterminesSignatures }
     ensures reasons { Reasons }
-{
-}
+{}

@@ -28,7 +28,13 @@ impl Body for Pooled {
         bitmaps::append(certificate, &carried(attestations).to_be_bytes());
     }
 
-    fn is_good(_epochs: &EpochList, _epoch: Epoch, item: &Item, signers: &[u8], body: &[u8]) -> bool {
+    fn is_good(
+        _epochs: &EpochList,
+        _epoch: Epoch,
+        item: &Item,
+        signers: &[u8],
+        body: &[u8],
+    ) -> bool {
         body == &tag_sum(signers, item).to_be_bytes()[..]
     }
 }

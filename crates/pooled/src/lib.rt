@@ -12,5 +12,4 @@ pub use body::{Pooled, PooledProvider};
 pub fn certificates_stand()
     ensures accepted { AssembledIsAccepted }
     ensures reasons { Reasons }
-{
-}
+{}

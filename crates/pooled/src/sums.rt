@@ -20,7 +20,8 @@ pub(crate) fn carried(attestations: &[Attestation]) -> u64
 pub(crate) fn tag_sum(signers: &[u8], item: &Item) -> u64
     ensures { result ≡ tag_sum item.now.height.0 item.now.digest.now signers.now % 2 ^ 64 }
 {
-    signers
-        .iter()
-        .fold(0, |sum: u64, signer| sum.wrapping_add(tags::tag(*signer, item)))
+    signers.iter().fold(
+        0,
+        |sum: u64, signer| sum.wrapping_add(tags::tag(*signer, item)),
+    )
 }
