@@ -2,33 +2,26 @@
 #![tactic(auto)]
 
 use std::io;
-use table::{Due, Entry, Key, Placed};
+use table::{Due, Entry, Full, Key};
 use types::{Height, Participant, PublicKey};
 
-fn word(placed: Placed) -> &'static str {
-    match placed {
-        Placed::Added => "added",
-        Placed::Replaced => "replaced",
-        Placed::Full => "full",
+/// What an insertion did.
+fn word(inserted: Result<Option<u32>, Full>) -> &'static str {
+    match inserted {
+        Ok(None) => "added",
+        Ok(Some(_)) => "replaced",
+        Err(Full) => "full",
     }
 }
 
+/// The value of an entry, or 0 where there is none.
 fn value<K: Key>(entry: Option<Entry<K, u32>>) -> u32 {
-    match entry {
-        Some(e) => e.value,
-        None => 0,
-    }
+    entry.map_or(0, |entry| entry.value)
 }
 
 /// Fills a table of three places out of order, with four keys that ascend.
-fn fill<K: Key>(
-    rt: &HostRuntime,
-    entries: &mut [Entry<K, u32>],
-    a: K,
-    b: K,
-    c: K,
-    d: K,
-) -> io::Result<()> {
+fn fill<K: Key>(rt: &HostRuntime, entries: &mut [Entry<K, u32>], keys: &[K; 4]) -> io::Result<()> {
+    let [a, b, c, d] = *keys;
     let third = word(table::insert(entries, 0, c, 30));
     let first = word(table::insert(entries, 1, a, 10));
     let second = word(table::insert(entries, 2, b, 21));
@@ -39,49 +32,46 @@ fn fill<K: Key>(
     println!(rt; "  insert: {again}, {more}, {past}")
 }
 
-/// What the first `used` entries answer of four keys.
-fn ask<K: Key>(
-    rt: &HostRuntime,
-    entries: &[Entry<K, u32>],
-    used: usize,
-    a: K,
-    b: K,
-    c: K,
-    d: K,
-) -> io::Result<()> {
-    let n = used.min(entries.len());
-    let rows = &entries[0..n];
+/// What a table answers of four keys.
+fn ask<K: Key>(rt: &HostRuntime, rows: &[Entry<K, u32>], keys: &[K; 4]) -> io::Result<()> {
     let least = value(table::first(rows));
     let greatest = value(table::last(rows));
     println!(rt; "  first: {least}, last: {greatest}")?;
-    let p = table::position(rows, &a);
-    let q = table::position(rows, &b);
-    let r = table::position(rows, &c);
-    let s = table::position(rows, &d);
-    println!(rt; "  position: {p:?}, {q:?}, {r:?}, {s:?}")?;
-    let p = table::lookup(rows, &a);
-    let q = table::lookup(rows, &b);
-    let r = table::lookup(rows, &c);
-    let s = table::lookup(rows, &d);
-    println!(rt; "  lookup: {p:?}, {q:?}, {r:?}, {s:?}")
+    let [a, b, c, d] = keys.each_ref().map(|key| table::position(rows, key));
+    println!(rt; "  position: {a:?}, {b:?}, {c:?}, {d:?}")?;
+    let [a, b, c, d] = keys.each_ref().map(|key| table::lookup(rows, key));
+    println!(rt; "  lookup: {a:?}, {b:?}, {c:?}, {d:?}")
 }
 
 /// All of a table's calls, over three places and with four keys that ascend.
 fn try_keys<K: Key>(
     rt: &HostRuntime,
-    entries: &mut [Entry<K, u32>],
-    a: K,
-    b: K,
-    c: K,
-    d: K,
+    title: &str,
+    entries: &mut [Entry<K, u32>; 3],
+    keys: &[K; 4],
 ) -> io::Result<()> {
-    fill(rt, entries, a, b, c, d)?;
-    ask(rt, entries, 3, a, b, c, d)?;
-    let there = table::remove(entries, 3, &b);
-    let gone = table::remove(entries, 2, &b);
+    println!(rt; "{title}")?;
+    fill(rt, entries, keys)?;
+    ask(rt, entries, keys)?;
+    let there = table::remove(entries, 3, &keys[1]).is_some();
+    let gone = table::remove(entries, 2, &keys[1]).is_some();
     println!(rt; "  remove: {there}, {gone}")?;
-    ask(rt, entries, 2, a, b, c, d)?;
-    ask(rt, entries, 0, a, b, c, d)
+    let rows = &entries[..];
+    ask(rt, &rows[..2], keys)?;
+    ask(rt, &rows[..0], keys)
+}
+
+/// What a place holds that is not in use.
+fn filler<K: Key>(key: K) -> Entry<K, u32> {
+    Entry { key, value: 0 }
+}
+
+/// A deadline with a height.
+fn due(deadline: u64, height: u64) -> Due {
+    Due {
+        deadline,
+        height: Height::new(height),
+    }
 }
 
 /// A public key of one byte over and over, with another at its end.
@@ -91,58 +81,28 @@ fn public_key(each: u8, end: u8) -> PublicKey {
     PublicKey::new(bytes)
 }
 
-fn due(deadline: u64, height: u64) -> Due {
-    Due {
-        deadline,
-        height: Height::new(height),
-    }
-}
-
-fn heights(rt: &HostRuntime) -> io::Result<()> {
-    println!(rt; "heights")?;
-    let top = Height::new(18446744073709551615);
-    let mut entries = [Entry { key: top, value: 0 }; 3];
-    try_keys(rt, &mut entries, Height::new(0), Height::new(5), Height::new(6), top)
-}
-
-fn signers(rt: &HostRuntime) -> io::Result<()> {
-    println!(rt; "signers")?;
-    let top = Participant::new(15);
-    let mut entries = [Entry { key: top, value: 0 }; 3];
+fn main(rt: HostRuntime) -> io::Result<()> {
+    let heights = [0, 5, 6, u64::MAX].map(Height::new);
+    try_keys(&rt, "heights", &mut [filler(heights[3]); 3], &heights)?;
+    let signers = [0, 1, 7, 15].map(Participant::new);
+    try_keys(&rt, "signers", &mut [filler(signers[3]); 3], &signers)?;
+    let dues = [due(1, 9), due(2, 4), due(2, 5), due(3, 0)];
     try_keys(
-        rt,
-        &mut entries,
-        Participant::new(0),
-        Participant::new(1),
-        Participant::new(7),
-        top,
-    )
-}
-
-fn dues(rt: &HostRuntime) -> io::Result<()> {
-    println!(rt; "deadlines and heights")?;
-    let top = due(3, 0);
-    let mut entries = [Entry { key: top, value: 0 }; 3];
-    try_keys(rt, &mut entries, due(1, 9), due(2, 4), due(2, 5), top)
-}
-
-fn public_keys(rt: &HostRuntime) -> io::Result<()> {
-    println!(rt; "public keys")?;
-    let top = public_key(2, 0);
-    let mut entries = [Entry { key: top, value: 0 }; 3];
-    try_keys(
-        rt,
-        &mut entries,
+        &rt,
+        "deadlines and heights",
+        &mut [filler(dues[3]); 3],
+        &dues,
+    )?;
+    let public_keys = [
         public_key(0, 255),
         public_key(1, 0),
         public_key(1, 1),
-        top,
+        public_key(2, 0),
+    ];
+    try_keys(
+        &rt,
+        "public keys",
+        &mut [filler(public_keys[3]); 3],
+        &public_keys,
     )
-}
-
-fn main(rt: HostRuntime) -> io::Result<()> {
-    heights(&rt)?;
-    signers(&rt)?;
-    dues(&rt)?;
-    public_keys(&rt)
 }

@@ -6,6 +6,7 @@ ghost use Rattle.types.specs.Numbers.{Height};
 ghost use Rattle.tips.specs.Seats.{among, carried, seated, reseated};
 
 use crate::MAX_SIGNERS;
+use arrayvec::ArrayVec;
 use table::{Entry, Key};
 use types::Height;
 
@@ -24,22 +25,13 @@ fn carry<K: Key>(seats: &[Entry<K, Height>], key: &K) -> Height
     table::lookup(seats, key).unwrap_or(Height::zero())
 }
 
-/// Writes the tips that the keys bring to a new set, in their order, in front of `tips`.
-fn carry_all<K: Key>(seats: &[Entry<K, Height>], keys: &[K], tips: &mut [Height])
-    requires { length keys.now ≤ length tips.old }
-    ensures { take (length keys.now) tips.new ≡ map (carried K.less seats.now) keys.now }
-{
-    for (i, key) in keys.iter().enumerate() {
-        tips[i] = carry(seats, key);
-    }
-}
-
 /// Gives each key, in order, a seat with the tip at its place in `tips`.
 pub fn seat_all<K: Key>(seats: &mut [Entry<K, Height>], keys: &[K], tips: &[Height])
     requires sized { length keys.now ≡ length seats.old }
     requires long { length keys.now ≤ length tips.now }
     ensures { (f : K → Height) → take (length keys.now) tips.now ≡ map f keys.now → seats.new ≡ seated f keys.now }
 {
+    // kept: written by index, since of what `seats.iter_mut().zip(..)` writes a proof knows the length alone (tried: no invariant names it)
     for (i, key) in keys.iter().enumerate() {
         seats[i] = Entry {
             key: *key,
@@ -48,13 +40,15 @@ pub fn seat_all<K: Key>(seats: &mut [Entry<K, Height>], keys: &[K], tips: &[Heig
     }
 }
 
-/// Changes the seats to those of the new set.
+/// Changes the seats to those of the new set: stayers keep their tips, and joiners start at 0.
 pub fn change<K: Key>(seats: &mut [Entry<K, Height>], keys: &[K])
     requires sized { length keys.now ≡ length seats.old }
     requires few { length keys.now ≤ 16 }
     ensures { seats.new ≡ reseated K.less keys.now seats.old }
 {
-    let mut tips = [Height::zero(); MAX_SIGNERS];
-    carry_all(seats, keys, &mut tips);
+    let mut tips = ArrayVec::<Height, MAX_SIGNERS>::new();
+    for key in keys {
+        tips.push(carry(seats, key));
+    }
     seat_all(seats, keys, &tips);
 }
