@@ -1,6 +1,7 @@
 -- The tables of a set whose tips are all 0. Assumes nothing.
 use Rattle.std.proofs.Common.{◌≡◌, ℕ, suc, ◌+◌, ◌-◌, ◌<◌, ◌≤◌, min, Bool, true, false, cond, ◌&&◌, eqb, ltb, leb, List, [], ◌∷◌, map, length, take, replicate, count_by, sym, refl, ap, ◌∙◌, arith}
 use Rattle.std.proofs.lemmas.List.{take-replicate}
+use Rattle.std.proofs.lemmas.Simd.{splat_is_map}
 use Rattle.std.proofs.lemmas.List.Sums.{sum_by-cons}
 use Rattle.std.proofs.lemmas.Bool.Decides.{nat_tests}
 use Rattle.types.specs.Numbers.{Height, height, number}
@@ -60,11 +61,7 @@ opened_split keys n f lo hi len is isl ish =
 
 -- as many zeros as keys
 pub zero_tips : {K : Type 0} (keys : List K) (n : ℕ) (z : Height) → z ≡ height 0 → length keys ≤ n → take (length keys) (replicate n z) ≡ map (λ _. height 0) keys
-zero_tips {K = K} keys n z is le = rw is (take-replicate (length keys) n (height 0) le ∙ all keys)
-  where
-    all : (ks : List K) → replicate (length ks) (height 0) ≡ map (λ _. height 0) ks
-    all [] = refl
-    all (k ∷ ks) = ap (λ l. height 0 ∷ l) (all ks)
+zero_tips keys n z is le = rw is (take-replicate (length keys) n (height 0) le ∙ splat_is_map keys (length keys) (height 0) refl)
 
 -- the tests of the two calls
 pub passes : (n m : ℕ) → m ≤ 16 → m ≡ n → (eqb m n && leb m 16) ≡ true

@@ -1,22 +1,12 @@
 //! The seats that the caller lends: each signer's key with its recorded tip.
-ghost use Rattle.std.specs.Prelude.{◌≡◌, ◌<◌, ◌≤◌, map, length, take, Some, None};
-ghost use Rattle.table.specs.Order.{level};
-ghost use Rattle.table.specs.Rows.{place};
+ghost use Rattle.std.specs.Prelude.{◌≡◌, ◌≤◌, map, length, take};
 ghost use Rattle.types.specs.Numbers.{Height};
-ghost use Rattle.tips.specs.Seats.{among, carried, seated, reseated};
+ghost use Rattle.tips.specs.Seats.{carried, seated, reseated};
 
 use crate::MAX_SIGNERS;
 use arrayvec::ArrayVec;
 use table::{Entry, Key};
 use types::Height;
-
-/// The place of the seat of `key`, if it has one.
-pub fn seat_of<K: Key>(seats: &[Entry<K, Height>], key: &K) -> Option<usize>
-    ensures placed { result ≡ place K.less key.now seats.now }
-    ensures within { elim result [ Some i ↦ i < length seats.now | None ↦ Unit {0} ] }
-{
-    table::position(seats, key)
-}
 
 /// The tip that `key` brings to a new set: its own, or 0 where it has no seat.
 fn carry<K: Key>(seats: &[Entry<K, Height>], key: &K) -> Height

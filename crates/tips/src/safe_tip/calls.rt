@@ -9,7 +9,7 @@ use super::SafeTip;
 use crate::MAX_SIGNERS;
 use crate::counts::Counts;
 use crate::faults::max_faults;
-use crate::seats::{change, seat_all, seat_of};
+use crate::seats::{change, seat_all};
 use crate::set_size::SetSize;
 use table::{Entry, Key};
 use types::Height;
@@ -108,7 +108,7 @@ impl SafeTip {
         ensures sorted { Sorted K.less seats.old → Sorted K.less seats.new }
     {
         // Return early if the signer is not in the set.
-        let i = seat_of(seats, key)?;
+        let i = table::position(seats, key)?;
 
         // If the new tip is not higher than the old tip, this is a no-op.
         let old = seats[i].value;

@@ -1,6 +1,5 @@
 //! One counted tip goes up or down.
-ghost use Rattle.std.specs.Prelude.{◌≡◌, ◌<◌, true};
-ghost use Rattle.types.specs.Numbers.{height};
+ghost use Rattle.std.specs.Prelude.{◌≡◌, true};
 ghost use Rattle.tips.specs.Seats.{tip_of, settled};
 ghost use Rattle.tips.specs.Tips.{counts as has, Moved, Recorded};
 
