@@ -3,8 +3,7 @@ use Rattle.std.proofs.Common.{◌≡◌, ℕ, ◌+◌, ◌-◌, ◌*◌, ◌/◌
 use Rattle.std.proofs.lemmas.Bool.{lt-ltb, le-ltb}
 use Rattle.std.proofs.lemmas.Bool.Decides.{nat_tests}
 use Rattle.std.proofs.lemmas.Nat.{mul-le}
-use Rattle.forms.specs.declared.steps.Number.{Number}
-use Rattle.forms.specs.Uint.{groups, wrong, behind}
+use Rattle.forms.specs.Uint.{Number, groups, wrong, behind}
 
 -- what is found behind k groups of value v, where the next counts p
 abbrev pub past : ℕ → ℕ → ℕ → Result Number ℕ → Result Number ℕ

@@ -24,3 +24,5 @@ length-tip t = omega arith
 pub length-message : (m : TipAck) → length (write_message m) ≡ length (spell m.tip) + length (write_ack m.ack)
 unfolding write_message
 length-message m = length-append (spell m.tip) (write_ack m.ack)
+
+pub ruleset lengths = (length-ack, length-ack_record, length-certified, length-tip, length-message)

@@ -1,14 +1,12 @@
 -- What values that borrow the bytes read say, as plain values. Assumes nothing.
-use Rattle.std.specs.Prelude.{ℕ, ◌+◌, [], ◌∷◌, length, Ok, Err, Result}
+use Rattle.std.specs.Prelude.{◌≡◌, ℕ, ◌+◌, [], ◌∷◌, length, Ok, Err, Result}
 use Rattle.forms.specs.declared.faults.Fault.{Fault}
 use Rattle.forms.specs.declared.parts.Part.{Part}
 use Rattle.forms.specs.declared.parts.Ack.{Ack as AckParts}
 use Rattle.forms.specs.declared.parts.Activity.{Activity as ActivityParts}
 use Rattle.forms.specs.declared.parts.Activity.TheVariants.{Ack as AckRead, Certified as CertifiedRead, Tip as TipRead}
 use Rattle.forms.specs.declared.parts.TipAck.{TipAck as TipAckParts}
-use Rattle.forms.specs.declared.steps.Counted.{Counted}
-use Rattle.forms.specs.declared.steps.Split.{Split}
-use Rattle.forms.specs.Reading.{Piece, Taken, Placed}
+use Rattle.forms.specs.Reading.{Piece, Placed, Step}
 use Rattle.forms.specs.Values.{Ack, Activity, ack, certified, tip, TipAck}
 
 abbrev pub piece : Part → Piece
@@ -18,13 +16,14 @@ piece p = record { bytes = p.bytes.now; at = p.at }
 abbrev pub end : Part → ℕ
 end p = p.at + length p.bytes.now
 
-abbrev pub counted : Result Counted Fault → Result (Taken ℕ) Fault
-counted (Ok c) = Ok (record { value = c.value; left = piece c.left })
-counted (Err e) = Err e
+-- a step of reading from `old` answers this, and leaves `new`; where it fails, what is left is not read again
+abbrev pub Takes : {A : Type 0} → Step A → Piece → Result A Fault → Piece → Type 0
+Takes step old (Ok a) new = step old ≡ Ok (record { value = a; left = new })
+Takes step old (Err e) new = step old ≡ Err e
 
-abbrev pub parted : Result Split Fault → Result (Taken Piece) Fault
-parted (Ok s) = Ok (record { value = piece s.part; left = piece s.left })
-parted (Err e) = Err e
+abbrev pub told_part : Result Part Fault → Result Piece Fault
+told_part (Ok p) = Ok (piece p)
+told_part (Err e) = Err e
 
 abbrev pub ack_of : AckParts → Placed Ack
 ack_of a =

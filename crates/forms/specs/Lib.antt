@@ -1,8 +1,10 @@
 pub mod Uint
 pub mod Values
+pub mod Kinds
 pub mod Reading
 pub mod Borrowed
 pub mod Writing
+pub mod Cursor
 pub mod Typed
 pub mod Names
 pub mod Sizes

@@ -1,4 +1,4 @@
--- Fields and faults in words. Assumes nothing.
+-- Fields and errors in words. Assumes nothing.
 use Rattle.std.specs.Prelude.{ℕ, List, ◌++◌, codes, decimal}
 use Rattle.forms.specs.declared.faults.Field.{Field}
 use Rattle.forms.specs.declared.faults.Field.TheVariants.{Kind, Height, Digest, Epoch, Signer, Signature, Tip, End}
@@ -17,3 +17,6 @@ field_name End = codes "end"
 -- the field, and the byte in decimal
 abbrev pub fault_text : Fault → List ℕ
 fault_text e = field_name e.field ++ (codes " at " ++ decimal e.at)
+
+abbrev pub short_text : List ℕ
+short_text = codes "the buffer is too short"

@@ -3,14 +3,17 @@ use Rattle.std.specs.Prelude.{ℕ, ◌+◌, ◌-◌, ◌^◌, cond, List, [], �
 use Rattle.forms.specs.declared.faults.Field.{Field}
 use Rattle.forms.specs.declared.faults.Field.TheVariants.{Kind, Height, Digest, Epoch, Signer, Signature, Tip, End}
 use Rattle.forms.specs.declared.faults.Fault.{Fault}
-use Rattle.forms.specs.declared.steps.Number.{Number}
-use Rattle.forms.specs.Uint.{uint}
+use Rattle.forms.specs.Uint.{Number, uint}
 use Rattle.forms.specs.Values.{Ack, Activity, ack, certified, tip, TipAck}
 
 -- a part of the bytes read, and its place in them
 pub record Piece : Type 0 where
   pub bytes : List ℕ
   pub at : ℕ
+
+-- these bytes, the first of which stands at a place
+abbrev pub bytes_from : List ℕ → ℕ → Piece
+bytes_from bs at = record { bytes = bs; at = at }
 
 -- what a step of reading found, and what it left
 pub record Taken (A : Type 0) : Type 0 where

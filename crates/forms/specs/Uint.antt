@@ -1,6 +1,10 @@
 -- UInt: a number in groups of seven bits, low group first, the top bit set while more follow. Assumes nothing.
 use Rattle.std.specs.Prelude.{ℕ, zero, suc, ◌+◌, ◌-◌, ◌*◌, ◌/◌, ◌%◌, Bool, true, false, cond, ◌&&◌, ◌||◌, List, [], ◌∷◌, Ok, Err, Result, ◌==◌, nat_lt}
-use Rattle.forms.specs.declared.steps.Number.{Number}
+
+-- a number, and how many bytes spell it
+pub record Number : Type 0 where
+  pub value : ℕ
+  pub len : ℕ
 
 -- the spelling of n in at most f + 1 groups
 unfoldable pub spell_by : ℕ → ℕ → List ℕ

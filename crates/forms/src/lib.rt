@@ -6,10 +6,12 @@ mod kinds;
 mod measures;
 mod names;
 mod parts;
+mod reader;
 mod readers;
 mod sizes;
-mod steps;
+mod writer;
 mod writers;
+mod written;
 
 pub use faults::{Fault, Field, Short};
 pub use measures::Sizes;
@@ -19,7 +21,5 @@ pub use sizes::{
     MAX_ACK, MAX_CERTIFICATE, MAX_MESSAGE, MAX_RECORD, MAX_RECORD_HEIGHT, MAX_SIGNER, MAX_TIP,
     largest,
 };
-pub use writers::{
-    ack_len, certified_len, message_len, tip_len, write_ack, write_certified, write_message,
-    write_tip,
-};
+pub use writers::{ack_len, certified_len, message_len, tip_len, write_activity, write_message};
+pub use written::{NewAck, NewActivity, NewCertified, NewTipAck};

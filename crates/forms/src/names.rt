@@ -1,24 +1,25 @@
-//! Fields and faults in words.
+//! Fields and errors in words.
 ghost use Rattle.std.specs.Prelude.{◌++◌, Some};
-ghost use Rattle.forms.specs.Names.{field_name, fault_text};
+ghost use Rattle.forms.specs.Names.{field_name, fault_text, short_text};
 
-use crate::faults::{Fault, Field};
+use crate::faults::{Fault, Field, Short};
+use std::error::Error;
 use std::fmt;
 
 impl fmt::Display for Field {
     ghost output = { λ f. Some (field_name f) };
 
     fn fmt<W: fmt::Write>(&self, f: &mut fmt::Formatter<W>) -> fmt::Result {
-        match self {
-            Field::Kind => f.write_str("kind"),
-            Field::Height => f.write_str("height"),
-            Field::Digest => f.write_str("digest"),
-            Field::Epoch => f.write_str("epoch"),
-            Field::Signer => f.write_str("signer"),
-            Field::Signature => f.write_str("signature"),
-            Field::Tip => f.write_str("tip"),
-            Field::End => f.write_str("end"),
-        }
+        f.write_str(match self {
+            Field::Kind => "kind",
+            Field::Height => "height",
+            Field::Digest => "digest",
+            Field::Epoch => "epoch",
+            Field::Signer => "signer",
+            Field::Signature => "signature",
+            Field::Tip => "tip",
+            Field::End => "end",
+        })
     }
 }
 
@@ -26,8 +27,18 @@ impl fmt::Display for Fault {
     ghost output = { λ e. Some (fault_text e) };
 
     fn fmt<W: fmt::Write>(&self, f: &mut fmt::Formatter<W>) -> fmt::Result {
-        let field = self.field;
-        let at = self.at;
-        write!(f, "{field} at {at}")
+        write!(f, "{} at {}", self.field, self.at)
     }
 }
+
+impl fmt::Display for Short {
+    ghost output = { λ _. Some short_text };
+
+    fn fmt<W: fmt::Write>(&self, f: &mut fmt::Formatter<W>) -> fmt::Result {
+        f.write_str("the buffer is too short")
+    }
+}
+
+impl Error for Fault {}
+
+impl Error for Short {}

@@ -6,8 +6,7 @@ use Rattle.std.proofs.lemmas.List.Elements.{All-nil, All-cons, All-replicate}
 use Rattle.forms.specs.declared.faults.Fault.{Fault}
 use Rattle.forms.specs.declared.faults.Field.{Field}
 use Rattle.forms.specs.declared.faults.Field.TheVariants.{End}
-use Rattle.forms.specs.declared.steps.Number.{Number}
-use Rattle.forms.specs.Uint.{uint, groups, wrong, behind}
+use Rattle.forms.specs.Uint.{Number, uint, groups, wrong, behind}
 use Rattle.forms.specs.Reading.{Piece, Taken, number, numbered, part}
 use Rattle.forms_laws.specs.Laws.{Bytes}
 use Rattle.forms_laws.proofs.Numbers.{at_none, at-wrong, at_last, at_more, is_right, right_fits}

@@ -4,8 +4,7 @@ use Rattle.std.proofs.lemmas.Bool.{cases_lt, cases_Bool, lt-ltb, le-ltb}
 use Rattle.std.proofs.lemmas.List.{drop_at}
 use Rattle.std.proofs.lemmas.List.Elements.{All-head, All-tail}
 use Rattle.std.proofs.lemmas.Bool.Decides.{nat_tests}
-use Rattle.forms.specs.declared.steps.Number.{Number}
-use Rattle.forms.specs.Uint.{uint, groups, wrong, behind, spell}
+use Rattle.forms.specs.Uint.{Number, uint, groups, wrong, behind, spell}
 use Rattle.forms.proofs.Spelling.{spell_last, spell-more}
 use Rattle.forms_laws.specs.Laws.{Bytes}
 

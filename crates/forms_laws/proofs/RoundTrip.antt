@@ -6,8 +6,7 @@ use Rattle.std.proofs.lemmas.List.Elements.{All-tail}
 use Rattle.forms.specs.declared.faults.Fault.{Fault}
 use Rattle.forms.specs.declared.faults.Field.{Field}
 use Rattle.forms.specs.declared.faults.Field.TheVariants.{Kind, Height, Digest, Epoch, Signer, Signature, Tip, End}
-use Rattle.forms.specs.declared.steps.Number.{Number}
-use Rattle.forms.specs.Uint.{uint, spell}
+use Rattle.forms.specs.Uint.{Number, uint, spell}
 use Rattle.forms.specs.Values.{Ack, Cert, Activity, ack, certified, tip, TipAck}
 use Rattle.forms.specs.Writing.{write_ack, write, write_message}
 use Rattle.forms.specs.Sizes.{SizedAck, SizedCert, SizedMessage, Sized}

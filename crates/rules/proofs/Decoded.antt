@@ -5,8 +5,7 @@ use Rattle.std.proofs.lemmas.List.{length-take}
 use Rattle.forms.specs.declared.faults.Fault.{Fault}
 use Rattle.forms.specs.declared.faults.Field.{Field}
 use Rattle.forms.specs.declared.faults.Field.TheVariants.{Height, Digest, Epoch, Signer, Signature, Tip}
-use Rattle.forms.specs.declared.steps.Number.{Number}
-use Rattle.forms.specs.Uint.{groups, uint, wrong, behind}
+use Rattle.forms.specs.Uint.{Number, groups, uint, wrong, behind}
 use Rattle.forms.specs.Values.{Activity}
 use Rattle.forms.specs.Reading.{Piece, Taken, Placed, Step, and_then, bind, numbered, number, part, ended, whole, top_number, top_height, top_signer, ack_up_to, tip_ack, by_kind, record_at, message_at, plain, read, message}
 use Rattle.forms.specs.Sizes.{SizedAck, Sized, SizedMessage}

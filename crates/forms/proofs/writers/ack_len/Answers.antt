@@ -1,9 +1,0 @@
-use Rattle.std.proofs.Common.{arith}
-use Rattle.forms.specs.Typed.{ack_of}
-use Rattle.forms.proofs.Lengths.{length-ack, length-ack_record}
-use Rattle.forms.proofs.writers.ack_len.Goals as goal
-
-pub returns : goal.returns
-returns c d g ld lg =
-    let a = ack_of c.args.height d c.args.epoch c.args.signer g in
-    omega (arith, length-ack a, length-ack_record a)
