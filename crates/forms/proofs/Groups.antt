@@ -1,7 +1,8 @@
 -- One turn of reading a number, group by group.
-use Rattle.std.proofs.Common.{◌≡◌, ℕ, ◌+◌, ◌-◌, ◌*◌, ◌/◌, ◌<◌, ◌≤◌, Bool, true, false, List, [], ◌∷◌, Ok, Err, Result, sym, ap, ◌∙◌, mul_assoc, mul_comm, mul-add, arith}
+use Rattle.std.proofs.Common.{◌≡◌, ℕ, ◌+◌, ◌-◌, ◌*◌, ◌/◌, ◌<◌, ◌≤◌, Bool, true, false, List, ◌∷◌, length, get_or, drop, Ok, Err, Result, sym, ap, ◌∙◌, mul_assoc, mul_comm, mul-add, arith}
 use Rattle.std.proofs.lemmas.Bool.{lt-ltb, le-ltb}
 use Rattle.std.proofs.lemmas.Bool.Decides.{nat_tests}
+use Rattle.std.proofs.lemmas.List.{at_drop_more, at_drop_all}
 use Rattle.std.proofs.lemmas.Nat.{mul-le}
 use Rattle.forms.specs.Uint.{Number, groups, wrong, behind}
 
@@ -23,22 +24,32 @@ past-behind k v p b (Ok n) =
     simp (e, f)
 past-behind k v p b (Err j) = let f : k + (1 + j) ≡ k + 1 + j = omega arith in simp f
 
-module _ (k v p room b : ℕ) (inner : Bool) (bs : List ℕ) where
-  pub past-wrong : wrong inner room b ≡ true → past k v p (groups inner room (b ∷ bs)) ≡ Err k
-  unfolding groups
-  past-wrong e = let z : k + 0 ≡ k = omega arith in simp (e, z)
+-- the group at k, and the groups behind it
+module _ (k v p room : ℕ) (inner : Bool) (bs : List ℕ) where
+  at_group : k < length bs → past k v p (groups inner room (drop k bs)) ≡ past k v p (groups inner room (get_or bs k 0 ∷ drop (k + 1) bs))
+  at_group h = at_drop_more (λ xs. past k v p (groups inner room xs)) bs k 0 h
 
-  pub past-last : wrong inner room b ≡ false → b < 128 → past k v p (groups inner room (b ∷ bs)) ≡ Ok (record { value = v + b * p; len = k + 1 })
+  pub past-wrong : k < length bs → wrong inner room (get_or bs k 0) ≡ true → past k v p (groups inner room (drop k bs)) ≡ Err k
   unfolding groups
-  past-last e h = let t = lt-ltb b 128 h in let m = mul_comm p b in simp (e, t, m)
+  past-wrong h e = let z : k + 0 ≡ k = omega arith in at_group h ∙ simp (e, z)
 
-  pub past_more : wrong inner room b ≡ false → 128 ≤ b → past k v p (groups inner room (b ∷ bs)) ≡ past (k + 1) (v + (b - 128) * p) (p * 128) (groups true ((room - (b - 128)) / 128) bs)
+  pub past-last : k < length bs → wrong inner room (get_or bs k 0) ≡ false → get_or bs k 0 < 128 →
+      past k v p (groups inner room (drop k bs)) ≡ Ok (record { value = v + get_or bs k 0 * p; len = k + 1 })
   unfolding groups
-  past_more e h = let t = le-ltb b 128 h in simp (e, t) (past-behind k v p b (groups true ((room - (b - 128)) / 128) bs))
+  past-last h e l = let t = lt-ltb (get_or bs k 0) 128 l in let m = mul_comm p (get_or bs k 0) in at_group h ∙ simp (e, t, m)
 
-pub past_none : (k v p room : ℕ) (inner : Bool) → past k v p (groups inner room []) ≡ Err k
-unfolding groups
-past_none k v p room inner = let z : k + 0 ≡ k = omega arith in simp z
+  pub past_more : k < length bs → wrong inner room (get_or bs k 0) ≡ false → 128 ≤ get_or bs k 0 →
+      past k v p (groups inner room (drop k bs)) ≡
+      past (k + 1) (v + (get_or bs k 0 - 128) * p) (p * 128) (groups true ((room - (get_or bs k 0 - 128)) / 128) (drop (k + 1) bs))
+  unfolding groups
+  past_more h e l =
+      let t = le-ltb (get_or bs k 0) 128 l in
+      at_group h ∙ simp (e, t) (past-behind k v p (get_or bs k 0) (groups true ((room - (get_or bs k 0 - 128)) / 128) (drop (k + 1) bs)))
+
+  -- there is no group any more
+  pub past_none : length bs ≤ k → past k v p (groups inner room (drop k bs)) ≡ Err k
+  unfolding groups
+  past_none h = let z : k + 0 ≡ k = omega arith in at_drop_all (λ xs. past k v p (groups inner room xs)) bs k h ∙ simp z
 
 pub right_fits : (inner : Bool) (room b : ℕ) → wrong inner room b ≡ false → b ≤ room
 right_fits inner room b e = grind (arith, nat_tests)

@@ -13,6 +13,7 @@ use types::{Epoch, Height, Participant};
 /// What is left of the bytes that are read, and its place in them.
 #[derive(Drop)]
 pub(crate) struct Reader<'a> {
+    /// The bytes that are left.
     left: Part<'a>,
 }
 

@@ -11,10 +11,12 @@ ghost use Rattle.forms.specs.Typed.{ack_from, activity_from, message_from};
 use crate::kinds::Kind;
 use crate::written::{NewAck, NewActivity, NewTipAck};
 
-/// A lent buffer, and the place where the next byte goes.
+/// A lent buffer that is written from its first byte on.
 #[derive(Drop)]
 pub(crate) struct Writer<'a> {
+    /// The buffer.
     pub(crate) out: &'a mut [u8],
+    /// How many of its bytes are written.
     pub(crate) at: usize,
 }
 

@@ -6,10 +6,15 @@ use types::{Digest, Epoch, Height, Participant, Signature};
 /// An ack to write: a signer's word, in one epoch, for the digest of a height.
 #[derive(Clone, Copy, Debug, PartialEq, Eq)]
 pub struct NewAck<'a> {
+    /// The height that is acked.
     pub(crate) height: Height,
+    /// The digest of the height.
     pub(crate) digest: &'a [u8],
+    /// The epoch in which the signer signs.
     pub(crate) epoch: Epoch,
+    /// The number of the signer.
     pub(crate) signer: Participant,
+    /// The signature of the height and its digest.
     pub(crate) signature: &'a [u8],
     ghost digest_sized: { length digest.now ≡ 32 },
     ghost signature_sized: { length signature.now ≡ 64 },
@@ -41,8 +46,11 @@ impl<'a> NewAck<'a> {
 /// A height and its digest to write, with the certificate that enough signers stand behind them.
 #[derive(Clone, Copy, Debug, PartialEq, Eq)]
 pub struct NewCertified<'a> {
+    /// The height that is certified.
     pub(crate) height: Height,
+    /// The digest of the height.
     pub(crate) digest: &'a [u8],
+    /// The certificate of the height and its digest.
     pub(crate) certificate: &'a [u8],
     ghost digest_sized: { length digest.now ≡ 32 },
 }

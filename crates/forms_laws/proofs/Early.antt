@@ -1,15 +1,12 @@
 -- Steps of reading that stop at the first byte with which nothing begins, and what is made of them.
-use Rattle.std.proofs.Common.{◌≡◌, ℕ, ◌+◌, ◌<◌, ◌≤◌, List, [], ◌++◌, length, take, Ok, Err, Result, sym, refl, ap, ◌∙◌, subst, arith}
+use Rattle.std.proofs.Common.{◌≡◌, ℕ, ◌+◌, ◌<◌, ◌≤◌, List, [], ◌++◌, length, take, Ok, Err, Result, sym, refl, ap, ◌∙◌, arith}
 use lib.Seq.{take-append-add}
 use Rattle.std.proofs.lemmas.List.{append_assoc, length-append}
 use Rattle.std.proofs.lemmas.List.Elements.{All-nil, All-append}
 use Rattle.forms.specs.declared.faults.Fault.{Fault}
 use Rattle.forms.specs.declared.faults.Field.TheVariants.{End}
-use Rattle.forms.specs.Reading.{Piece, Taken, Step, and_then, bind, yield}
+use Rattle.forms.specs.Reading.{Piece, Taken, Step, and_then, bind, yield, bytes_from as from}
 use Rattle.forms_laws.specs.Laws.{Bytes}
-
-abbrev pub from : List ℕ → ℕ → Piece
-from bs at = record { bytes = bs; at = at }
 
 abbrev pub found : {A : Type 0} → A → List ℕ → ℕ → Result (Taken A) Fault
 found a bs at = Ok (record { value = a; left = from bs at })
@@ -54,11 +51,12 @@ pub by_result : {A : Type 0} (r : Result A Fault) (P : Type 0) → ((a : A) → 
 by_result (Ok a) P x y = x a refl
 by_result (Err f) P x y = y f refl
 
-pub not_both : {A : Type 0} (r : Result A Fault) (a : A) (f : Fault) → r ≡ Ok a → r ≡ Err f → ⊥
-not_both r a f x y = let z : ◌≡◌ {A = ℕ} 0 1 = cc in omega arith
+-- no result is both a value and an error, and it is one error at most
+pub not_both : {A E : Type 0} {r : Result A E} {a : A} {e : E} → r ≡ Ok a → r ≡ Err e → ⊥
+not_both x y = cc
 
-pub same-fault : {A : Type 0} (r : Result A Fault) (e f : Fault) → r ≡ Err e → r ≡ Err f → e ≡ f
-same-fault r e f x y = cc
+pub same_err : {A E : Type 0} {r : Result A E} {e f : E} → r ≡ Err e → r ≡ Err f → e ≡ f
+same_err x y = cc
 
 -- nothing more
 pub early_yield : {A : Type 0} (a : A) → Early (yield a)
@@ -66,15 +64,15 @@ early_yield a =
     record {
       used = λ bs at t e. record { front = []; splits = (let l : from bs at ≡ t.left = cc in ap (λ p. p.bytes) l); place = (let l : from bs at ≡ t.left = cc in ap (λ p. p.at) (sym l) ∙ omega arith); again = λ q. (let l : from bs at ≡ t.left = cc in let v : a ≡ t.value = cc in let w : at ≡ t.left.at = ap (λ p. p.at) l in ap (λ x. found x q at) v ∙ ap (λ n. found t.value q n) w) };
       some = λ at. record { bytes = []; are = All-nil (λ (b : ℕ). b < 256); takes = record { value = a; end = at; reads = λ q. refl } };
-      stop = λ bs at f e. absurd (not_both (yield a (from bs at)) (record { value = a; left = from bs at }) f refl e);
+      stop = λ bs at f e. absurd (not_both refl e);
     }
 
 module _ {A B : Type 0} (s : Step A) (t : A → Step B) where
-  pub bind_ok : (p : Piece) (x : Taken A) → s p ≡ Ok x → bind s t p ≡ t x.value x.left
-  bind_ok p x e = ap (λ r. and_then r (λ a. t a.value a.left)) e
+  pub bind_ok : {p : Piece} {x : Taken A} → s p ≡ Ok x → bind s t p ≡ t x.value x.left
+  bind_ok e = ap (λ r. and_then r (λ a. t a.value a.left)) e
 
-  pub bind_err : (p : Piece) (f : Fault) → s p ≡ Err f → bind s t p ≡ Err f
-  bind_err p f e = ap (λ r. and_then r (λ a. t a.value a.left)) e
+  pub bind_err : {p : Piece} {f : Fault} → s p ≡ Err f → bind s t p ≡ Err f
+  bind_err e = ap (λ r. and_then r (λ a. t a.value a.left)) e
 
   -- two steps that take bytes take them one behind the other
   pub takes_both : (at : ℕ) (bs cs : List ℕ) (x : Takes s at bs) → Takes (t x.value) x.end cs → Takes (bind s t) at (bs ++ cs)
@@ -82,7 +80,7 @@ module _ {A B : Type 0} (s : Step A) (t : A → Step B) where
       record {
         value = y.value;
         end = y.end;
-        reads = λ q. ap (λ z. bind s t (from z at)) (append_assoc bs cs q) ∙ bind_ok (from (bs ++ (cs ++ q)) at) (record { value = x.value; left = from (cs ++ q) x.end }) (x.reads (cs ++ q)) ∙ y.reads q;
+        reads = λ q. ap (λ z. bind s t (from z at)) (append_assoc bs cs q) ∙ bind_ok (x.reads (cs ++ q)) ∙ y.reads q;
       }
 
   used_both : (bs : List ℕ) (at : ℕ) (x : Taken A) (u : Taken B) → Used s bs at x → Used (t x.value) x.left.bytes x.left.at u → Used (bind s t) bs at u
@@ -91,7 +89,7 @@ module _ {A B : Type 0} (s : Step A) (t : A → Step B) where
         front = i.front ++ j.front;
         splits = i.splits ∙ ap (λ z. i.front ++ z) j.splits ∙ sym (append_assoc i.front j.front u.left.bytes);
         place = omega (arith, i.place, j.place, length-append i.front j.front);
-        again = λ q. ap (λ z. bind s t (from z at)) (append_assoc i.front j.front q) ∙ bind_ok (from (i.front ++ (j.front ++ q)) at) (record { value = x.value; left = from (j.front ++ q) x.left.at }) (i.again (j.front ++ q)) ∙ j.again q;
+        again = λ q. ap (λ z. bind s t (from z at)) (append_assoc i.front j.front q) ∙ bind_ok (i.again (j.front ++ q)) ∙ j.again q;
       }
 
   -- the first step stops
@@ -104,8 +102,8 @@ module _ {A B : Type 0} (s : Step A) (t : A → Step B) where
         within = i.within;
         more = i.more ++ more.bytes;
         are = All-append (λ b. b < 256) i.more more.bytes i.are more.are;
-        goes = (let P : List ℕ → Type 0 = λ z. Takes (bind s t) at z in subst P (append_assoc (take i.k bs) i.more more.bytes) (takes_both at (take i.k bs ++ i.more) more.bytes i.goes more.takes));
-        stops = λ h q. bind_err (from (take (i.k + 1) bs ++ q) at) f (i.stops h q);
+        goes = rw (← append_assoc (take i.k bs) i.more more.bytes) (takes_both at (take i.k bs ++ i.more) more.bytes i.goes more.takes);
+        stops = λ h q. bind_err (i.stops h q);
         inside = i.inside;
       }
 
@@ -125,11 +123,11 @@ module _ {A B : Type 0} (s : Step A) (t : A → Step B) where
         within = omega (arith, j.within);
         more = j.more;
         are = j.are;
-        goes = (let P : List ℕ → Type 0 = λ z. Takes (bind s t) at z in subst P all (takes_both at i.front (take j.k rest ++ j.more) taken j.goes));
+        goes = rw (← all) (takes_both at i.front (take j.k rest ++ j.more) taken j.goes);
         stops = λ h q.
             ap (λ m. bind s t (from (take m bs ++ q) at)) one ∙ ap (λ z. bind s t (from (z ++ q) at)) (cut (j.k + 1)) ∙
             ap (λ z. bind s t (from z at)) (append_assoc i.front (take (j.k + 1) rest) q) ∙
-            bind_ok (from (i.front ++ (take (j.k + 1) rest ++ q)) at) (record { value = x.value; left = from (take (j.k + 1) rest ++ q) x.left.at }) (i.again (take (j.k + 1) rest ++ q)) ∙
+            bind_ok (i.again (take (j.k + 1) rest ++ q)) ∙
             j.stops (omega arith) q;
         inside = j.inside;
       }
@@ -139,14 +137,14 @@ module _ {A B : Type 0} (s : Step A) (t : A → Step B) where
       record {
         used = λ bs at u e.
             by_result (s (from bs at)) (Used (bind s t) bs at u)
-            (λ x ok. used_both bs at x u (first.used bs at x ok) ((next x.value).used x.left.bytes x.left.at u (sym (bind_ok (from bs at) x ok) ∙ e)))
-            (λ f bad. absurd (not_both (bind s t (from bs at)) u f e (bind_err (from bs at) f bad)));
+            (λ x ok. used_both bs at x u (first.used bs at x ok) ((next x.value).used x.left.bytes x.left.at u (sym (bind_ok ok) ∙ e)))
+            (λ f bad. absurd (not_both e (bind_err bad)));
         some = λ at.
             let x = first.some at in
             let y = (next x.takes.value).some x.takes.end in
             record { bytes = x.bytes ++ y.bytes; are = All-append (λ b. b < 256) x.bytes y.bytes x.are y.are; takes = takes_both at x.bytes y.bytes x.takes y.takes };
         stop = λ bs at f e.
             by_result (s (from bs at)) (Stop (bind s t) bs at f)
-            (λ x ok. stop_second bs at x f (first.used bs at x ok) ((next x.value).stop x.left.bytes x.left.at f (sym (bind_ok (from bs at) x ok) ∙ e)))
-            (λ g bad. stop_first bs at f next (first.stop bs at f (bad ∙ ap (λ z. Err z) (same-fault (bind s t (from bs at)) g f (bind_err (from bs at) g bad) e))));
+            (λ x ok. stop_second bs at x f (first.used bs at x ok) ((next x.value).stop x.left.bytes x.left.at f (sym (bind_ok ok) ∙ e)))
+            (λ g bad. stop_first bs at f next (first.stop bs at f (bad ∙ ap (λ z. Err z) (same_err (bind_err bad) e))));
       }

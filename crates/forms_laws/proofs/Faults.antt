@@ -1,14 +1,14 @@
 -- A fault names the first byte with which nothing valid begins.
-use Rattle.std.proofs.Common.{◌≡◌, ℕ, suc, ◌+◌, ◌<◌, ◌≤◌, List, [], ◌∷◌, ◌++◌, length, take, drop, Ok, Err, Result, sym, refl, ap, ◌∙◌, subst, arith}
+use Rattle.std.proofs.Common.{◌≡◌, ℕ, suc, ◌+◌, ◌<◌, ◌≤◌, List, [], ◌∷◌, ◌++◌, length, take, drop, Ok, Err, Result, sym, refl, ap, ◌∙◌, arith}
 use lib.Seq.{take-append-add}
 use Rattle.std.proofs.lemmas.Bool.{ne_eqb}
 use Rattle.std.proofs.lemmas.List.{append_assoc, append-nil, length-append, take_at, take-append-drop}
 use Rattle.std.proofs.lemmas.List.Elements.{All-nil}
 use Rattle.forms.specs.declared.faults.Fault.{Fault}
 use Rattle.forms.specs.declared.faults.Field.TheVariants.{End}
-use Rattle.forms.specs.Reading.{Piece, Taken, Step, and_then, ended, whole}
+use Rattle.forms.specs.Reading.{Piece, Taken, Step, and_then, ended, whole, bytes_from as from}
 use Rattle.forms_laws.specs.Laws.{Bytes, Valid, First}
-use Rattle.forms_laws.proofs.Early.{from, found, Early, by_result, not_both, same-fault}
+use Rattle.forms_laws.proofs.Early.{found, Early, by_result, not_both, same_err}
 
 -- the same of bytes that begin at a place: k is the index among them
 pub record Firsts {A : Type 0} (reads : List ℕ → Result A Fault) (at : ℕ) (bs : List ℕ) (f : Fault) : Type 0 where
@@ -27,7 +27,7 @@ before_stop : {A : Type 0} (s : Step A) (bs : List ℕ) (at k : ℕ) (t : Taken 
 before_stop s bs at k t f early ok bad =
     let i = early.used (take k bs) at t ok in
     let all : i.front ++ (t.left.bytes ++ drop k bs) ≡ bs = sym (append_assoc i.front t.left.bytes (drop k bs)) ∙ ap (λ z. z ++ drop k bs) (sym i.splits) ∙ take-append-drop k bs in
-    not_both (s (from bs at)) (record { value = t.value; left = from (t.left.bytes ++ drop k bs) t.left.at }) f (ap (λ z. s (from z at)) (sym all) ∙ i.again (t.left.bytes ++ drop k bs)) bad
+    not_both (ap (λ z. s (from z at)) (sym all) ∙ i.again (t.left.bytes ++ drop k bs)) bad
 
 -- a step that may leave something
 pub step_first : {A : Type 0} (s : Step A) (at : ℕ) (bs : List ℕ) (f : Fault) → Early s → s (from bs at) ≡ Err f → Firsts (λ xs. s (from xs at)) at bs f
@@ -49,11 +49,11 @@ pub ended_some : {A : Type 0} (v : A) (b : ℕ) (rest : List ℕ) (end : ℕ) �
 ended_some v b rest end = let z = ne_eqb (suc (length rest)) 0 (λ e. omega arith) in simp z
 
 module _ {A : Type 0} (s : Step A) where
-  whole-ok : (p : Piece) (t : Taken A) → s p ≡ Ok t → whole s p ≡ ended t.value t.left
-  whole-ok p t e = ap (λ r. and_then r (λ a. ended a.value a.left)) e
+  pub whole-ok : {p : Piece} {t : Taken A} → s p ≡ Ok t → whole s p ≡ ended t.value t.left
+  whole-ok e = ap (λ r. and_then r (λ a. ended a.value a.left)) e
 
-  whole_err : (p : Piece) (f : Fault) → s p ≡ Err f → whole s p ≡ Err f
-  whole_err p f e = ap (λ r. and_then r (λ a. ended a.value a.left)) e
+  pub whole_err : {p : Piece} {f : Fault} → s p ≡ Err f → whole s p ≡ Err f
+  whole_err e = ap (λ r. and_then r (λ a. ended a.value a.left)) e
 
   -- the step itself stops
   whole_stop : (at : ℕ) (bs : List ℕ) (f : Fault) → Early s → s (from bs at) ≡ Err f → Firsts (λ xs. whole s (from xs at)) at bs f
@@ -66,29 +66,28 @@ module _ {A : Type 0} (s : Step A) where
         within = i.within;
         more = i.more;
         are = i.are;
-        goes = (i.goes.value, ap (λ z. whole s (from z at)) (sym nil) ∙ whole-ok (from ((take i.k bs ++ i.more) ++ []) at) (record { value = i.goes.value; left = from [] i.goes.end }) (i.goes.reads []));
-        stops = λ h q. whole_err (from (take (i.k + 1) bs ++ q) at) f (i.stops h q);
+        goes = (i.goes.value, ap (λ z. whole s (from z at)) (sym nil) ∙ whole-ok (i.goes.reads []));
+        stops = λ h q. whole_err (i.stops h q);
         left = λ z. absurd (i.inside z);
         over = λ v.
             by_result (s (from (take i.k bs) at)) (f.field ≡ End)
             (λ t ok. absurd (before_stop s bs at i.k t f early ok e))
-            (λ g bad. absurd (not_both (whole s (from (take i.k bs) at)) v.0 g v.1 (whole_err (from (take i.k bs) at) g bad)));
+            (λ g bad. absurd (not_both v.1 (whole_err bad)));
       }
 
   -- something is left over
   left_over : (at : ℕ) (bs : List ℕ) (f : Fault) (v : A) (rest : List ℕ) (end : ℕ) (front : List ℕ) →
       bs ≡ front ++ rest → end ≡ at + length front → ((q : List ℕ) → s (from (front ++ q) at) ≡ found v q end) →
       ended v (from rest end) ≡ Err f → Firsts (λ xs. whole s (from xs at)) at bs f
-  left_over at bs f v [] end front splits place again e = absurd (not_both (ended v (from [] end)) v f refl e)
+  left_over at bs f v [] end front splits place again e = absurd (not_both refl e)
   left_over at bs f v (b ∷ rest) end front splits place again e =
       let n = length front in
       let cut : take n bs ≡ front = ap (take n) splits ∙ take_at front (b ∷ rest) n refl in
-      let x : record { field = End; at = end } ≡ f = same-fault (ended v (from (b ∷ rest) end)) (record { field = End; at = end }) f (ended_some v b rest end) e in
-      let here : whole s (from (take n bs) at) ≡ Ok v = ap (λ z. whole s (from z at)) (cut ∙ sym (append-nil front)) ∙ whole-ok (from (front ++ []) at) (record { value = v; left = from [] end }) (again []) in
+      let x : record { field = End; at = end } ≡ f = same_err (ended_some v b rest end) e in
+      let here : whole s (from (take n bs) at) ≡ Ok v = ap (λ z. whole s (from z at)) (cut ∙ sym (append-nil front)) ∙ whole-ok (again []) in
       let len : length bs ≡ n + suc (length rest) = ap length splits ∙ length-append front (b ∷ rest) in
       let next : take (n + 1) bs ≡ front ++ (b ∷ []) = ap (take (n + 1)) splits ∙ take-append-add front (b ∷ rest) 1 in
-      let P : Fault → Type 0 = λ z. Firsts (λ xs. whole s (from xs at)) at bs z in
-      subst P x
+      rw (← x)
       (record {
         k = n;
         is = place;
@@ -96,7 +95,7 @@ module _ {A : Type 0} (s : Step A) where
         more = [];
         are = All-nil (λ (b : ℕ). b < 256);
         goes = (v, ap (λ z. whole s (from z at)) (append-nil (take n bs)) ∙ here);
-        stops = λ h q. ap (λ z. whole s (from (z ++ q) at)) next ∙ ap (λ z. whole s (from z at)) (append_assoc front (b ∷ []) q) ∙ whole-ok (from (front ++ (b ∷ q)) at) (record { value = v; left = from (b ∷ q) end }) (again (b ∷ q)) ∙ ended_some v b q end;
+        stops = λ h q. ap (λ z. whole s (from (z ++ q) at)) next ∙ ap (λ z. whole s (from z at)) (append_assoc front (b ∷ []) q) ∙ whole-ok (again (b ∷ q)) ∙ ended_some v b q end;
         left = λ _. ((v, here), omega arith);
         over = λ _. refl;
       })
@@ -106,8 +105,8 @@ module _ {A : Type 0} (s : Step A) where
       by_result (s (from bs at)) (Firsts (λ xs. whole s (from xs at)) at bs f)
       (λ t ok.
       let i = early.used bs at t ok in
-      left_over at bs f t.value t.left.bytes t.left.at i.front i.splits i.place i.again (sym (whole-ok (from bs at) t ok) ∙ e))
-      (λ g bad. whole_stop at bs f early (bad ∙ ap (λ z. Err z) (same-fault (whole s (from bs at)) g f (whole_err (from bs at) g bad) e)))
+      left_over at bs f t.value t.left.bytes t.left.at i.front i.splits i.place i.again (sym (whole-ok ok) ∙ e))
+      (λ g bad. whole_stop at bs f early (bad ∙ ap (λ z. Err z) (same_err (whole_err bad) e)))
 
 -- what is made of a value does not change the fault
 pub carried : {A B : Type 0} (reads : List ℕ → Result A Fault) (made : List ℕ → Result B Fault) (at : ℕ) (bs : List ℕ) (f : Fault) →
@@ -126,7 +125,7 @@ carried reads made at bs f ok err i =
       over = λ v.
           by_result (reads (take i.k bs)) (f.field ≡ End)
           (λ a e. i.over (a, e))
-          (λ g e. absurd (not_both (made (take i.k bs)) v.0 g v.1 (err (take i.k bs) g e)));
+          (λ g e. absurd (not_both v.1 (err (take i.k bs) g e)));
     }
 
 -- from the first byte on
@@ -137,10 +136,10 @@ from_start reads bs f i =
       within = omega (arith, i.within);
       more = i.more;
       bytes = i.are;
-      goes = (let P : ℕ → Type 0 = λ n. Valid reads (take n bs ++ i.more) in subst P e i.goes);
-      stops = λ h q v. not_both (reads (take (f.at + 1) bs ++ q)) v.0 f v.1 (ap (λ n. reads (take (n + 1) bs ++ q)) (sym e) ∙ i.stops (omega arith) q);
-      left = λ z. (let P : ℕ → Type 0 = λ n. Valid reads (take n bs) × (n < length bs) in subst P e (i.left z));
-      over = λ v. i.over (let P : ℕ → Type 0 = λ n. Valid reads (take n bs) in subst P (sym e) v);
+      goes = rw (← e) i.goes;
+      stops = λ h q v. not_both v.1 (ap (λ n. reads (take (n + 1) bs ++ q)) (sym e) ∙ i.stops (omega arith) q);
+      left = λ z. rw (← e) (i.left z);
+      over = λ v. i.over (rw e v);
     }
 
 -- behind the first byte
@@ -151,12 +150,12 @@ behind-one reads b bs f i =
       within = omega (arith, i.within);
       more = i.more;
       bytes = i.are;
-      goes = (let P : ℕ → Type 0 = λ n. Valid reads (take n (b ∷ bs) ++ i.more) in subst P e i.goes);
+      goes = rw (← e) i.goes;
       stops = λ h q v.
           let one : suc (i.k + 1) ≡ f.at + 1 = omega arith in
-          not_both (reads (take (f.at + 1) (b ∷ bs) ++ q)) v.0 f v.1 (ap (λ n. reads (take n (b ∷ bs) ++ q)) (sym one) ∙ i.stops (omega arith) q);
+          not_both v.1 (ap (λ n. reads (take n (b ∷ bs) ++ q)) (sym one) ∙ i.stops (omega arith) q);
       left = λ z.
           let v = i.left z in
-          (let P : ℕ → Type 0 = λ n. Valid reads (take n (b ∷ bs)) in subst P e v.0, omega (arith, v.1));
-      over = λ v. i.over (let P : ℕ → Type 0 = λ n. Valid reads (take n (b ∷ bs)) in subst P (sym e) v);
+          (rw (← e) v.0, omega (arith, v.1));
+      over = λ v. i.over (rw (← e) at v);
     }

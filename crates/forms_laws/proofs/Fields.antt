@@ -1,5 +1,5 @@
 -- The two kinds of fields, numbers and parts, are read by steps that stop as early as they can.
-use Rattle.std.proofs.Common.{◌≡◌, ℕ, suc, ◌+◌, ◌-◌, ◌*◌, ◌/◌, ◌<◌, ◌≤◌, Bool, true, false, List, [], ◌∷◌, ◌++◌, length, take, drop, replicate, Ok, Err, Result, sym, refl, ap, ◌∙◌, subst, ⊎_elim, arith}
+use Rattle.std.proofs.Common.{◌≡◌, ℕ, suc, ◌+◌, ◌-◌, ◌*◌, ◌/◌, ◌<◌, ◌≤◌, Bool, true, false, List, [], ◌∷◌, ◌++◌, length, take, drop, replicate, Ok, Err, Result, sym, refl, ap, ◌∙◌, ⊎_elim, arith}
 use Rattle.std.proofs.lemmas.Bool.{cases_lt, cases_Bool, le-leb, lt-leb}
 use Rattle.std.proofs.lemmas.List.{length-append, length-take-le, length-replicate, take-append-drop, take_all, take_at, drop_at}
 use Rattle.std.proofs.lemmas.List.Elements.{All-nil, All-cons, All-replicate}
@@ -7,10 +7,11 @@ use Rattle.forms.specs.declared.faults.Fault.{Fault}
 use Rattle.forms.specs.declared.faults.Field.{Field}
 use Rattle.forms.specs.declared.faults.Field.TheVariants.{End}
 use Rattle.forms.specs.Uint.{Number, uint, groups, wrong, behind}
-use Rattle.forms.specs.Reading.{Piece, Taken, number, numbered, part}
+use Rattle.forms.specs.Reading.{Piece, Taken, number, numbered, part, bytes_from as from}
+use Rattle.forms.proofs.Groups.{right_fits}
 use Rattle.forms_laws.specs.Laws.{Bytes}
-use Rattle.forms_laws.proofs.Numbers.{at_none, at-wrong, at_last, at_more, is_right, right_fits}
-use Rattle.forms_laws.proofs.Early.{from, found, Used, Stop, Early, not_both}
+use Rattle.forms_laws.proofs.Numbers.{at_none, at-wrong, at_last, at_more, is_right}
+use Rattle.forms_laws.proofs.Early.{found, Used, Stop, Early, not_both, same_err}
 
 -- the groups of a number, which are taken again whatever follows
 record Groups (inner : Bool) (most : ℕ) (bs : List ℕ) (n : Number) : Type 0 where
@@ -20,12 +21,9 @@ record Groups (inner : Bool) (most : ℕ) (bs : List ℕ) (n : Number) : Type 0 
   pub len : n.len ≡ length front
   pub again : (q : List ℕ) → groups inner most (front ++ q) ≡ Ok n
 
-no_ok : (k : ℕ) (n : Number) → ◌≡◌ {A = Result Number ℕ} (Err k) (Ok n) → ⊥
-no_ok k n e = let z : ◌≡◌ {A = ℕ} 0 1 = cc in omega arith
-
 groups-behind : (inner : Bool) (most b : ℕ) (bs : List ℕ) (n : Number) (r : Result Number ℕ) → wrong inner most b ≡ false → 128 ≤ b → behind b r ≡ Ok n →
     ((m : Number) → r ≡ Ok m → Groups true ((most - (b - 128)) / 128) bs m) → Groups inner most (b ∷ bs) n
-groups-behind inner most b bs n (Err k) ok ge e f = absurd (no_ok (1 + k) n e)
+groups-behind inner most b bs n (Err k) ok ge e f = absurd (not_both e refl)
 groups-behind inner most b bs n (Ok m) ok ge e f =
     let i = f m refl in
     let l : n.len ≡ 1 + m.len = cc in
@@ -38,10 +36,10 @@ groups-behind inner most b bs n (Ok m) ok ge e f =
     }
 
 groups_of : (bs : List ℕ) (inner : Bool) (most : ℕ) (n : Number) → groups inner most bs ≡ Ok n → Groups inner most bs n
-groups_of [] inner most n e = absurd (no_ok 0 n (sym (at_none inner most) ∙ e))
+groups_of [] inner most n e = absurd (not_both e (at_none inner most))
 groups_of (b ∷ bs) inner most n e =
     ⊎_elim
-    (λ bad. absurd (no_ok 0 n (sym (at-wrong inner most b bs bad) ∙ e)))
+    (λ bad. absurd (not_both e (at-wrong inner most b bs bad)))
     (λ ok.
     ⊎_elim
     (λ lt.
@@ -69,7 +67,7 @@ least false = 0
 
 least-goes : (inner : Bool) (most : ℕ) (q : List ℕ) → (inner ≡ true → 1 ≤ most) → groups inner most (least inner ∷ q) ≡ Ok (record { value = least inner; len = 1 })
 least-goes true most q h = at_last true most 1 q (is_right true most 1 (λ _. omega arith) (h refl)) (omega arith)
-least-goes false most q h = at_last false most 0 q (is_right false most 0 (λ e. absurd (let y : ◌≡◌ {A = ℕ} 0 1 = cc in omega arith)) (omega arith)) (omega arith)
+least-goes false most q h = at_last false most 0 q (is_right false most 0 (λ e. cc) (omega arith)) (omega arith)
 
 least_byte : (inner : Bool) → least inner < 256
 least_byte true = omega arith
@@ -88,17 +86,13 @@ halt_here inner most bs h stops =
       stops = stops;
     }
 
-same_halt : (r : Result Number ℕ) (j k : ℕ) → r ≡ Err j → r ≡ Err k → j ≡ k
-same_halt r j k x y = cc
-
 halt_behind : (inner : Bool) (most b : ℕ) (bs : List ℕ) (k : ℕ) (r : Result Number ℕ) → wrong inner most b ≡ false → 128 ≤ b → behind b r ≡ Err k →
     ((j : ℕ) → r ≡ Err j → Halt true ((most - (b - 128)) / 128) bs j) → Halt inner most (b ∷ bs) k
-halt_behind inner most b bs k (Ok m) ok ge e f = absurd (no_ok k (record { value = (b - 128) + 128 * m.value; len = 1 + m.len }) (sym e))
+halt_behind inner most b bs k (Ok m) ok ge e f = absurd (not_both refl e)
 halt_behind inner most b bs k (Err j) ok ge e f =
     let i = f j refl in
     let c : k ≡ suc j = (let z : 1 + j ≡ k = cc in omega arith) in
-    let P : ℕ → Type 0 = λ n. Halt inner most (b ∷ bs) n in
-    subst P (sym c)
+    rw c
     (record {
       within = omega (arith, i.within);
       more = i.more;
@@ -113,16 +107,14 @@ halt_behind inner most b bs k (Err j) ok ge e f =
 
 halt_of : (bs : List ℕ) (inner : Bool) (most k : ℕ) → (inner ≡ true → 1 ≤ most) → groups inner most bs ≡ Err k → Halt inner most bs k
 halt_of [] inner most k h e =
-    let P : ℕ → Type 0 = λ n. Halt inner most [] n in
-    subst P (same_halt (groups inner most []) 0 k (at_none inner most) e) (halt_here inner most [] h (λ l. absurd (omega arith)))
+    rw (← same_err (at_none inner most) e) (halt_here inner most [] h (λ l. absurd (omega arith)))
 halt_of (b ∷ bs) inner most k h e =
     ⊎_elim
     (λ bad.
-    let P : ℕ → Type 0 = λ n. Halt inner most (b ∷ bs) n in
-    subst P (same_halt (groups inner most (b ∷ bs)) 0 k (at-wrong inner most b bs bad) e) (halt_here inner most (b ∷ bs) h (λ l q. at-wrong inner most b q bad)))
+    rw (← same_err (at-wrong inner most b bs bad) e) (halt_here inner most (b ∷ bs) h (λ l q. at-wrong inner most b q bad)))
     (λ ok.
     ⊎_elim
-    (λ lt. absurd (no_ok k (record { value = b; len = 1 }) (sym e ∙ at_last inner most b bs ok lt)))
+    (λ lt. absurd (not_both (at_last inner most b bs ok lt) e))
     (λ ge.
     halt_behind inner most b bs k (groups true ((most - (b - 128)) / 128) bs) ok ge (sym (at_more inner most b bs ok ge) ∙ e)
     (λ j f. halt_of bs true ((most - (b - 128)) / 128) j (λ _. omega (arith, right_fits inner most b ok)) f))
@@ -131,13 +123,12 @@ halt_of (b ∷ bs) inner most k h e =
 
 module _ (field : Field) (most : ℕ) (ne : field ≡ End → ⊥) where
   number_used : (bs : List ℕ) (at : ℕ) (t : Taken ℕ) (r : Result Number ℕ) → uint most bs ≡ r → numbered field (from bs at) r ≡ Ok t → Used (number field most) bs at t
-  number_used bs at t (Err k) u e = absurd (not_both (numbered field (from bs at) (Err k)) t (record { field = field; at = at + k }) e refl)
+  number_used bs at t (Err k) u e = absurd (not_both e refl)
   number_used bs at t (Ok n) u e =
       let i = groups_of bs false most n u in
       let x : record { value = n.value; left = from (drop n.len bs) (at + n.len) } ≡ t = cc in
-      let P : Taken ℕ → Type 0 = λ z. Used (number field most) bs at z in
       let d : drop n.len bs ≡ i.rest = ap (drop n.len) i.splits ∙ drop_at i.front i.rest n.len (sym i.len) in
-      subst P x
+      rw (← x)
       (record {
         front = i.front;
         splits = i.splits ∙ ap (λ z. i.front ++ z) (sym d);
@@ -146,12 +137,11 @@ module _ (field : Field) (most : ℕ) (ne : field ≡ End → ⊥) where
       })
 
   number_stop : (bs : List ℕ) (at : ℕ) (f : Fault) (r : Result Number ℕ) → uint most bs ≡ r → numbered field (from bs at) r ≡ Err f → Stop (number field most) bs at f
-  number_stop bs at f (Ok n) u e = absurd (not_both (numbered field (from bs at) (Ok n)) (record { value = n.value; left = from (drop n.len bs) (at + n.len) }) f refl e)
+  number_stop bs at f (Ok n) u e = absurd (not_both refl e)
   number_stop bs at f (Err k) u e =
-      let i = halt_of bs false most k (λ z. absurd (let y : ◌≡◌ {A = ℕ} 0 1 = cc in omega arith)) u in
+      let i = halt_of bs false most k (λ e. cc) u in
       let x : record { field = field; at = at + k } ≡ f = cc in
-      let P : Fault → Type 0 = λ z. Stop (number field most) bs at z in
-      subst P x
+      rw (← x)
       (record {
         k = k;
         is = refl;
@@ -175,7 +165,7 @@ module _ (field : Field) (most : ℕ) (ne : field ≡ End → ⊥) where
             record {
               bytes = 0 ∷ [];
               are = All-cons (λ (b : ℕ). b < 256) 0 [] (least_byte false) (All-nil (λ (b : ℕ). b < 256));
-              takes = record { value = 0; end = at + 1; reads = λ q. ap (numbered field (from (0 ∷ q) at)) (least-goes false most q (λ z. absurd (let y : ◌≡◌ {A = ℕ} 0 1 = cc in omega arith))) };
+              takes = record { value = 0; end = at + 1; reads = λ q. ap (numbered field (from (0 ∷ q) at)) (least-goes false most q (λ e. cc)) };
             };
         stop = λ bs at f e. number_stop bs at f (uint most bs) refl e;
       }
@@ -197,19 +187,17 @@ module _ (field : Field) (n : ℕ) (ne : field ≡ End → ⊥) where
   part_used bs at t h e =
       let y = part_long field n bs at h in
       let x : record { value = from (take n bs) at; left = from (drop n bs) (at + n) } ≡ t = cc in
-      let P : Taken Piece → Type 0 = λ z. Used (part field n) bs at z in
       let l = length-take-le n bs h in
-      subst P x (record { front = take n bs; splits = sym (take-append-drop n bs); place = ap (λ z. at + z) (sym l); again = λ q. part-takes field n (take n bs) at l q })
+      rw (← x) (record { front = take n bs; splits = sym (take-append-drop n bs); place = ap (λ z. at + z) (sym l); again = λ q. part-takes field n (take n bs) at l q })
 
   part_stop : (bs : List ℕ) (at : ℕ) (f : Fault) → length bs < n → part field n (from bs at) ≡ Err f → Stop (part field n) bs at f
   part_stop bs at f h e =
       let y = part-short field n bs at h in
       let x : record { field = field; at = at + length bs } ≡ f = cc in
-      let P : Fault → Type 0 = λ z. Stop (part field n) bs at z in
       let more : List ℕ = replicate (n - length bs) 0 in
       let all = take_all (length bs) bs (omega arith) in
       let l : length (take (length bs) bs ++ more) ≡ n = length-append (take (length bs) bs) more ∙ omega (arith, ap length all, length-replicate {A = ℕ} (n - length bs) 0) in
-      subst P x
+      rw (← x)
       (record {
         k = length bs;
         is = refl;
@@ -226,13 +214,13 @@ module _ (field : Field) (n : ℕ) (ne : field ≡ End → ⊥) where
       record {
         used = λ bs at t e.
             ⊎_elim
-            (λ h. absurd (not_both (part field n (from bs at)) t (record { field = field; at = at + length bs }) e (part-short field n bs at h)))
+            (λ h. absurd (not_both e (part-short field n bs at h)))
             (λ h. part_used bs at t h e)
             (cases_lt (length bs) n);
         some = λ at. record { bytes = replicate n 0; are = All-replicate (λ (b : ℕ). b < 256) n 0 (least_byte false); takes = record { value = from (replicate n 0) at; end = at + n; reads = λ q. part-takes field n (replicate n 0) at (length-replicate {A = ℕ} n 0) q } };
         stop = λ bs at f e.
             ⊎_elim
             (λ h. part_stop bs at f h e)
-            (λ h. absurd (not_both (part field n (from bs at)) (record { value = from (take n bs) at; left = from (drop n bs) (at + n) }) f (part_long field n bs at h) e))
+            (λ h. absurd (not_both (part_long field n bs at h) e))
             (cases_lt (length bs) n);
       }

@@ -5,8 +5,10 @@ use Rattle.std.proofs.lemmas.List.{drop_at}
 use Rattle.std.proofs.lemmas.List.Elements.{All-head, All-tail}
 use Rattle.std.proofs.lemmas.Bool.Decides.{nat_tests}
 use Rattle.forms.specs.Uint.{Number, uint, groups, wrong, behind, spell}
+use Rattle.forms.proofs.Groups.{right_fits}
 use Rattle.forms.proofs.Spelling.{spell_last, spell-more}
 use Rattle.forms_laws.specs.Laws.{Bytes}
+use Rattle.forms_laws.proofs.Early.{not_both}
 
 module _ (inner : Bool) (most b : ℕ) (bs : List ℕ) where
   pub at-wrong : wrong inner most b ≡ true → groups inner most (b ∷ bs) ≡ Err 0
@@ -29,9 +31,6 @@ at_none inner most = refl
 pub is_right : (inner : Bool) (most b : ℕ) → (inner ≡ true → 0 < b) → b ≤ most → wrong inner most b ≡ false
 is_right true most b h l = let p = h refl in grind (arith, nat_tests)
 is_right false most b h l = grind (arith, nat_tests)
-
-pub right_fits : (inner : Bool) (most b : ℕ) → wrong inner most b ≡ false → b ≤ most
-right_fits inner most b e = grind (arith, nat_tests)
 
 pub right_some : (most b : ℕ) → wrong true most b ≡ false → 0 < b
 right_some most b e = grind (arith, nat_tests)
@@ -57,7 +56,7 @@ back_by (suc f) inner most n rest h l p =
     (cases_lt n 128)
 
 pub back : (most n : ℕ) (rest : List ℕ) → n ≤ most → uint most (spell n ++ rest) ≡ Ok (record { value = n; len = length (spell n) })
-back most n rest h = back_by n false most n rest (omega arith) h (λ e. absurd (let z : ◌≡◌ {A = Bool} false true = e in let y : ◌≡◌ {A = ℕ} 0 1 = cc in omega arith))
+back most n rest h = back_by n false most n rest (omega arith) h (λ e. cc)
 
 -- n is a number up to `most` that bs begins with, spelled as it would be written
 pub record Spelt (inner : Bool) (most : ℕ) (bs : List ℕ) (n : Number) : Type 0 where
@@ -66,9 +65,6 @@ pub record Spelt (inner : Bool) (most : ℕ) (bs : List ℕ) (n : Number) : Type
   pub some : inner ≡ true → 0 < n.value
   pub len : n.len ≡ length (spell n.value)
   pub spelling : bs ≡ spell n.value ++ rest
-
-no_ok : (k : ℕ) (n : Number) → ◌≡◌ {A = Result Number ℕ} (Err k) (Ok n) → ⊥
-no_ok k n e = let z : ◌≡◌ {A = ℕ} 0 1 = cc in omega arith
 
 spelt-last : (inner : Bool) (most b : ℕ) (bs : List ℕ) (n : Number) → wrong inner most b ≡ false → b < 128 → groups inner most (b ∷ bs) ≡ Ok n → Spelt inner most (b ∷ bs) n
 spelt-last inner most b bs n ok lt e =
@@ -87,7 +83,7 @@ spelt-last inner most b bs n ok lt e =
 spelt-behind : (inner : Bool) (most b : ℕ) (bs : List ℕ) (n : Number) (r : Result Number ℕ) →
     wrong inner most b ≡ false → 128 ≤ b → b < 256 → behind b r ≡ Ok n →
     ((m : Number) → r ≡ Ok m → Spelt true ((most - (b - 128)) / 128) bs m) → Spelt inner most (b ∷ bs) n
-spelt-behind inner most b bs n (Err k) ok ge byte e f = absurd (no_ok (1 + k) n e)
+spelt-behind inner most b bs n (Err k) ok ge byte e f = absurd (not_both e refl)
 spelt-behind inner most b bs n (Ok m) ok ge byte e f =
     let i = f m refl in
     let w = m.value in
@@ -109,10 +105,10 @@ spelt-behind inner most b bs n (Ok m) ok ge byte e f =
     }
 
 pub spelt : (bs : List ℕ) (inner : Bool) (most : ℕ) (n : Number) → Bytes bs → groups inner most bs ≡ Ok n → Spelt inner most bs n
-spelt [] inner most n h e = absurd (no_ok 0 n (sym (at_none inner most) ∙ e))
+spelt [] inner most n h e = absurd (not_both e (at_none inner most))
 spelt (b ∷ bs) inner most n h e =
     ⊎_elim
-    (λ bad. absurd (no_ok 0 n (sym (at-wrong inner most b bs bad) ∙ e)))
+    (λ bad. absurd (not_both e (at-wrong inner most b bs bad)))
     (λ ok.
     ⊎_elim
     (λ lt. spelt-last inner most b bs n ok lt e)
