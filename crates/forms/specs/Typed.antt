@@ -20,10 +20,10 @@ message_of t h d e s g = record { tip = t.0; ack = ack_of h d e s g }
 
 -- what is to be written, as plain values
 abbrev pub ack_from : NewAck → Ack
-ack_from a = ack_of a.height a.digest.now a.epoch a.signer a.signature.now
+ack_from a = ack_of a.height a.digest.now.bytes a.epoch a.signer a.signature.now.bytes
 
 abbrev pub cert_from : NewCertified → Cert
-cert_from c = cert_of c.height c.digest.now c.certificate.now
+cert_from c = cert_of c.height c.digest.now.bytes c.certificate.now
 
 abbrev pub activity_from : NewActivity → Activity
 activity_from (AckToWrite a) = ack (ack_from a)

@@ -76,10 +76,10 @@ impl<'a> Writer<'a> {
         ensures { Puts (write_ack (ack_from ack.now)) self.old self.new }
     {
         self.uint(ack.height.0);
-        self.bytes(ack.digest);
+        self.bytes(&ack.digest.bytes);
         self.uint(ack.epoch.0);
         self.uint(ack.signer.0);
-        self.bytes(ack.signature);
+        self.bytes(&ack.signature.bytes);
     }
 
     /// Writes a record: the byte of its kind, and its body.
@@ -95,7 +95,7 @@ impl<'a> Writer<'a> {
             NewActivity::Certified(certified) => {
                 self.kind(Kind::Certified);
                 self.uint(certified.height.0);
-                self.bytes(certified.digest);
+                self.bytes(&certified.digest.bytes);
                 self.bytes(certified.certificate);
             }
             NewActivity::Tip(tip) => {
