@@ -2,3 +2,4 @@ pub mod Attested
 pub mod Maps
 pub mod Parts
 pub mod Verdicts
+pub mod Signers

@@ -3,6 +3,7 @@ ghost use Rattle.std.specs.Prelude.{◌≡◌, ◌+◌, ◌^◌, ◌<◌, ◌&&�
 ghost use Rattle.bitmaps.specs.Attested.{signers_in};
 ghost use Rattle.bitmaps.specs.Maps.{map_for};
 ghost use Rattle.bitmaps.specs.Parts.{appended};
+ghost use Rattle.provider.specs.Values.{certified};
 
 use provider::{Attestation, Certificate};
 
@@ -43,7 +44,11 @@ pub fn bitmap(n: usize, attestations: &[Attestation]) -> Option<u16>
 
 /// Writes a part behind what the certificate holds; nothing where there is no room for it.
 pub fn append(certificate: &mut Certificate, part: &[u8])
-    ensures { certificate.new.bytes.items ≡ appended part.now certificate.old.bytes.items }
+    ensures { certified certificate.new ≡ appended part.now (certified certificate.old) }
 {
-    let _ = certificate.bytes.try_extend_from_slice(part);
+    let len = certificate.len;
+    if part.len() <= 1026 - len {
+        certificate.bytes[len..len + part.len()].copy_from_slice(part);
+        certificate.len = len + part.len();
+    }
 }

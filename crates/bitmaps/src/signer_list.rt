@@ -1,9 +1,13 @@
 //! The signers of a map, in ascending order.
-use arrayvec::ArrayVec;
+ghost use Rattle.std.specs.Prelude.{◌≤◌};
 
 /// At most sixteen signers.
-#[derive(Clone, Debug, PartialEq, Eq, Drop)]
+// kept: an array with its length beside it, since the list is copied, and an `ArrayVec` is no `Copy`
+#[derive(Clone, Copy, Debug)]
 pub struct Signers {
-    /// The signers.
-    pub list: ArrayVec<u8, 16>,
+    /// The signers, and behind them what does not belong to the list.
+    pub list: [u8; 16],
+    /// How many of the list are the signers.
+    pub len: usize,
+    ghost within: { len ≤ 16 },
 }

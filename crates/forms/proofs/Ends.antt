@@ -1,5 +1,6 @@
 -- What a record or a message says, by what stands first in it.
-use Rattle.std.proofs.Common.{◌≡◌, ℕ, ◌<◌, List, [], ◌∷◌, length, sym, refl, ap, ◌∙◌, arith}
+use Rattle.std.proofs.Common.{◌≡◌, ℕ, ◌-◌, ◌<◌, ◌≤◌, List, [], ◌∷◌, length, get_or, take, drop, sym, refl, ap, ◌∙◌, arith}
+use Rattle.std.proofs.lemmas.List.{take_all}
 use Rattle.std.proofs.lemmas.Bool.{ne_eqb}
 use Rattle.forms.specs.declared.kinds.Kind.{Kind}
 use Rattle.forms.specs.Kinds.{code_of}
@@ -16,6 +17,11 @@ pub record_none : (bs : List ℕ) → length bs ≡ 0 → record_at bs ≡ no_ki
 unfolding record_at
 record_none [] h = refl
 record_none (b ∷ bs) h = absurd (omega arith)
+
+-- the first byte and the part behind it
+pub first_rest : (bs : List ℕ) → 1 ≤ length bs → bs ≡ get_or bs 0 0 ∷ take (length bs - 1) (drop 1 bs)
+first_rest [] h = absurd (omega arith)
+first_rest (b ∷ bs) h = ap (λ l. b ∷ l) (sym (take_all (length (b ∷ bs) - 1) bs (omega arith)))
 
 -- a record, by the kind whose byte stands first and by what stands behind it
 pub record_of : {bs rest : List ℕ} {code : ℕ} {kind this : Kind} →

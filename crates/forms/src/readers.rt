@@ -46,11 +46,11 @@ fn tip_body<'a>(mut body: Reader<'a>) -> Result<Activity<'a>, Fault>
 pub fn read_activity<'a>(record: &'a [u8]) -> Result<Activity<'a>, Fault>
     ensures { told result ≡ record_at «record».now }
 {
-    let Some((&code, rest)) = record.split_first() else {
+    let [code, rest @ ..] = record else {
         return Err(NoKind.into());
     };
     let body = Reader::new(rest, 1);
-    match Kind::try_from(code)? {
+    match Kind::try_from(*code)? {
         Kind::Ack => ack_body(body),
         Kind::Certified => certified_body(body),
         Kind::Tip => tip_body(body),

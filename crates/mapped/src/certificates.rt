@@ -4,7 +4,6 @@ ghost use Rattle.provider.specs.Values.{attested, assembled};
 ghost use Rattle.mapped.specs.Certificates.{assemble_for};
 
 use crate::Body;
-use arrayvec::ArrayVec;
 use provider::{Attestation, Certificate};
 
 /// The certificate that the signatures make, where they are of n − f or more of `n` signers in ascending order.
@@ -13,7 +12,8 @@ pub fn certificate<B: Body>(n: usize, attestations: &[Attestation]) -> Option<Ce
 {
     let signers = bitmaps::bitmap(n, attestations)?;
     let mut certificate = Certificate {
-        bytes: ArrayVec::new(),
+        bytes: [0; 1026],
+        len: 0,
     };
     bitmaps::append(&mut certificate, &signers.to_be_bytes());
     B::write(attestations, &mut certificate);

@@ -2,7 +2,7 @@
 #![tactic(auto)]
 
 ghost use Rattle.std.specs.Prelude.{◌≡◌, ◌≤◌, ◌++◌, map, length};
-ghost use Rattle.provider.specs.Values.{attested};
+ghost use Rattle.provider.specs.Values.{attested, certified};
 ghost use Rattle.trial.specs.Sets.{set_at};
 ghost use Rattle.mapped.specs.Bodies.{Meaning, Fitting};
 
@@ -32,8 +32,8 @@ pub trait Body {
     /// Writes the body that the signatures make behind what the certificate holds.
     fn write(attestations: &[Attestation], certificate: &mut Certificate)
         requires few { length attestations.now ≤ 16 }
-        requires room { length certificate.old.bytes.items ≤ 2 }
-        ensures { certificate.new.bytes.items ≡ certificate.old.bytes.items ++ meaning.body (map attested attestations.now) };
+        requires room { length (certified certificate.old) ≤ 2 }
+        ensures { certified certificate.new ≡ certified certificate.old ++ meaning.body (map attested attestations.now) };
 
     /// Whether a body of the right length shows that these signers of `epoch` signed the item.
     fn is_good(epochs: &EpochList, epoch: Epoch, item: &Item, signers: &[u8], body: &[u8]) -> bool

@@ -1,5 +1,5 @@
 -- The values of the code as the plain ones of the answers. Assumes nothing.
-use Rattle.std.specs.Prelude.{ℕ, List, map, Option}
+use Rattle.std.specs.Prelude.{ℕ, List, map, take, Option}
 use Rattle.std.specs.Borrow.{Bor}
 use Rattle.std.specs.Option.{option_map}
 use Rattle.types.specs.Texts.{PublicKey, Signature}
@@ -30,7 +30,7 @@ attested a = record { signer = a.signer.0; signature = a.signature.bytes }
 
 -- the bytes of a certificate
 abbrev pub certified : Certificate → Bytes
-certified c = c.bytes.items
+certified c = take c.len c.bytes
 
 abbrev pub assembled : Option Certificate → Option Bytes
 assembled o = option_map certified o

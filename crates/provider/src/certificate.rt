@@ -1,9 +1,13 @@
 //! A certificate, held by value.
-use arrayvec::ArrayVec;
+ghost use Rattle.std.specs.Prelude.{◌≤◌};
 
 /// At most 1,026 bytes that show that a quorum signed.
-#[derive(Clone, Debug, PartialEq, Eq, Drop)]
+// kept: an array with its length beside it, since a certificate is copied, and an `ArrayVec` is no `Copy`
+#[derive(Clone, Copy, Debug)]
 pub struct Certificate {
-    /// The bytes.
-    pub bytes: ArrayVec<u8, 1026>,
+    /// The certificate's bytes, and behind them what does not belong to it.
+    pub bytes: [u8; 1026],
+    /// How many of the bytes are the certificate.
+    pub len: usize,
+    ghost within: { len ≤ 1026 },
 }

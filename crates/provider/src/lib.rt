@@ -22,7 +22,7 @@ impl Certificate {
     pub fn as_bytes(&self) -> &[u8]
         ensures { result.now ≡ certified self.now }
     {
-        self.bytes.as_slice()
+        &self.bytes[0..self.len]
     }
 }
 

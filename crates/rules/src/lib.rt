@@ -10,43 +10,31 @@ ghost use Rattle.rules.specs.Window.{WindowCases};
 
 /// After every run of an engine on an empty journal, whatever the calls, halts and power cuts: all certificates told for a height
 /// are one and are backed, all own acks of an epoch and height bear one digest, and slips balance.
-pub fn promises_stand() -> u8
+pub fn promises_stand()
     ensures { Promises }
-{
-    0
-}
+{}
 
 /// Tip 10, W 4, A 2: an ack of height 7 gets 17, one of 14 gets 18; 8 and 13 go on.
-pub fn window_stands() -> u8
+pub fn window_stands()
     ensures { WindowCases }
-{
-    0
-}
+{}
 
 /// No rule ever needs a 513th stored ack.
-pub fn room_stands() -> u8
+pub fn room_stands()
     ensures { AcksFit }
-{
-    0
-}
+{}
 
 /// Heights and tips stay within what records can hold, and every record of the journal is read back as it was written.
-pub fn records_stand() -> u8
+pub fn records_stand()
     ensures { RecordsFit }
-{
-    0
-}
+{}
 
 /// What a call other than an opening writes fits into 2,048 bytes.
-pub fn output_stands() -> u8
+pub fn output_stands()
     ensures { OutputFits }
-{
-    0
-}
+{}
 
 /// Whatever a call tells, a certificate above all, is durable in the journal when it is told.
-pub fn durable_stands() -> u8
+pub fn durable_stands()
     ensures { ToldDurable }
-{
-    0
-}
+{}

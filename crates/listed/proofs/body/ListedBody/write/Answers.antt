@@ -1,5 +1,5 @@
 use Rattle.std.proofs.Common.{◌++◌, map, length, take, List, ℕ, sym, ap, ◌∙◌, arith, append_assoc, length-append}
-use Rattle.provider.specs.Values.{attested}
+use Rattle.provider.specs.Values.{attested, certified}
 use Rattle.bitmaps.proofs.Appended.{appended-room}
 use Rattle.listed.specs.Certificates.{signatures}
 use Rattle.listed.proofs.Writing.{signatures_more}
@@ -10,8 +10,8 @@ loop-attestation-preserved c =
     let qs = c.args.attestations.now in
     let i = c.loop-attestation.attestation-index in
     let q = c.attestation-item.result in
-    let before = c.loop-attestation.certificate.bytes.items in
-    let map_bytes = c.args.certificate.now.bytes.items in
+    let before = certified c.loop-attestation.certificate in
+    let map_bytes = certified c.args.certificate.now in
     let so_far = c.loop-attestation.invariant in
     let sized = q.signature.sized in
     let written = c.append.ensures ∙ appended-room q.signature.bytes before (omega (arith, so_far.1, c.requires.few)) in (
