@@ -1,8 +1,7 @@
 //! Which certificates are accepted, and why another is not.
 ghost use Rattle.std.specs.Prelude.{◌≡◌, ◌≤◌, length};
 ghost use Rattle.trial.specs.Faults.{checked};
-ghost use Rattle.trial.specs.Sets.{set_at};
-ghost use Rattle.mapped.specs.Judging.{reject_body, reject_in};
+ghost use Rattle.mapped.specs.Mapping.{body_rejected, rejected};
 
 use crate::{Body, MappedProvider};
 use bitmaps::Rejection;
@@ -19,7 +18,7 @@ impl<B: Body> MappedProvider<'_, B> {
         body: &[u8],
     ) -> Result<(), Rejection>
         requires { length signers.now ≤ 16 }
-        ensures { result ≡ checked (reject_body B.meaning.size (B.meaning.good (set_at epoch.0 self.now.epochs.sets.now) item.now.height.0 item.now.digest.now) n signers.now body.now) }
+        ensures { result ≡ checked (body_rejected B.meaning self.now.epochs.sets.now epoch.0 item.now.height.0 item.now.digest.now n signers.now body.now) }
     {
         if !bitmaps::all_below(n, signers) {
             return Err(Rejection::SignerOutside);
@@ -38,7 +37,7 @@ impl<B: Body> MappedProvider<'_, B> {
 
     /// Refuses a certificate for the first reason against it, if there is one.
     pub fn check(&self, epoch: Epoch, item: &Item, certificate: &[u8]) -> Result<(), Rejection>
-        ensures { result ≡ checked (reject_in B.meaning.size (B.meaning.good (set_at epoch.0 self.now.epochs.sets.now) item.now.height.0 item.now.digest.now) (set_at epoch.0 self.now.epochs.sets.now) certificate.now) }
+        ensures { result ≡ checked (rejected B.meaning self.now.epochs.sets.now epoch.0 item.now.height.0 item.now.digest.now certificate.now) }
     {
         let Some(set) = self.epochs.find(epoch) else {
             return Err(Rejection::UnknownEpoch);
