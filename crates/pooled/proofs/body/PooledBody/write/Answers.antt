@@ -2,7 +2,6 @@ use Rattle.std.proofs.Common.{ℕ, List, ◌++◌, length, ap, ◌∙◌, arith}
 use Rattle.provider.specs.Values.{certified}
 use Rattle.bitmaps.proofs.Appended.{appended-room}
 use Rattle.tags.specs.Words.{eight_bytes}
-use Rattle.pooled.specs.Keeping.{eight}
 use Rattle.pooled.proofs.body.PooledBody.write.Goals as goal
 
 pub returns : goal.returns
