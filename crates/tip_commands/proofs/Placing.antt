@@ -51,7 +51,7 @@ found x d [] i a l e = absurd (omega arith)
 found x d (k ∷ ks) zero a l e = grind arith
 found x d (k ∷ ks) (suc i) a l e =
     let h = leads-at k d ks i (and_parts _ _ a).0 (omega arith) in
-    let more = found x d ks i (and_parts _ _ a).1 (omega arith) e in
+    let more : is_some (at ahead x (at_zero ks)) ≡ true = found x d ks i (and_parts _ _ a).1 (omega arith) e in
     grind arith
 
 -- where every key before a place is lower and every later one higher, the key is not there, and is put there
