@@ -30,11 +30,13 @@ impl Body for Listed {
     }
 
     fn is_good(epochs: &EpochList, epoch: Epoch, item: &Item, signers: &[u8], body: &[u8]) -> bool {
-        for (i, signer) in signers.iter().enumerate() {
-            let signature = &body[64 * i..64 * i + 64];
+        let mut rest = body;
+        for signer in signers {
+            let (signature, behind) = rest.split_at(64);
             if !epochs.accepts(epoch, Participant::new(u64::from(*signer)), item, signature) {
                 return false;
             }
+            rest = behind;
         }
         true
     }
