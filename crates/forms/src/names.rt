@@ -6,6 +6,7 @@ use crate::faults::{Fault, Field, Short};
 use std::error::Error;
 use std::fmt;
 
+// kept: these impls by hand, since thiserror's derive promises nothing of what it prints
 impl fmt::Display for Field {
     ghost output = { λ f. Some (field_name f) };
 

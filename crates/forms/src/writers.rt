@@ -23,7 +23,7 @@ fn uint_len(n: u64) -> usize
     (70 - n.leading_zeros() as usize) / 7
 }
 
-// kept: (d) a length is asked for before there are a digest and a signature, so these take no `NewAck`, which holds them.
+// kept: a length is asked for before there are a digest and a signature, so these take no `NewAck`, which holds them.
 /// How many bytes the record of an ack takes.
 pub fn ack_len(height: Height, epoch: Epoch, signer: Participant) -> usize
     ensures { AckLen height epoch signer result }

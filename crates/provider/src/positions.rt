@@ -16,6 +16,7 @@ fn rows(keys: &[PublicKey], other: &PublicKey) -> [Entry<PublicKey, ()>; 16]
         key: *other,
         value: (),
     }; 16];
+    // kept: by index, tried as `array::from_fn`, whose clause gives a chain of states of the closure and no short proof
     for (i, key) in keys.iter().enumerate() {
         rows[i].key = *key;
     }

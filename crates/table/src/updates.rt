@@ -6,6 +6,7 @@ ghost use Rattle.table.specs.Updates.{Inserted, Removed, grown, shrunk, MapInser
 use crate::lookups::{position, rank_of};
 use crate::{Entry, Full, Key};
 
+// kept: `used` beside the slice, here and in `remove`, since tables are lent slices by the project's rules; `Table` has them in one
 /// Puts `value` at `key`: in place of the value there, which is handed back, or as an entry more where a place is free.
 pub fn insert<K: Key, V: Copy>(
     entries: &mut [Entry<K, V>],

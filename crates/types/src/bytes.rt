@@ -24,6 +24,7 @@ pub type Digest = Bytes<Digests, 32>;
 /// A signature of a height and its digest.
 pub type Signature = Bytes<Signatures, 64>;
 
+// kept: by hand, since the kit derives no `Clone` over a ghost field
 impl<K, const N: usize> Clone for Bytes<K, N> {
     ghost use Rattle.std.specs.Prelude.{⊤};
 
