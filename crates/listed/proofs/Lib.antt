@@ -1,3 +1,2 @@
 pub mod Determined
-pub mod Reading
 pub mod Writing
