@@ -1,7 +1,7 @@
 //! What is wrong with the signers of one epoch.
 ghost use Rattle.std.specs.Prelude.{◌≡◌};
 ghost use Rattle.provider.specs.Values.{key_bytes};
-ghost use Rattle.trial.specs.Faults.{checked, neighbour_fault, key_faults, keys_fault, own_fault, set_fault};
+ghost use Rattle.trial.specs.Faults.{checked, neighbour_fault, keys_fault, own_fault, set_fault};
 
 use crate::{EpochSet, Fault};
 use table::Key;
@@ -24,13 +24,8 @@ fn check_neighbour(at: usize, low: &PublicKey, high: &PublicKey) -> Result<(), F
 fn check_keys(keys: &[PublicKey]) -> Result<(), Fault>
     ensures { result ≡ checked (keys_fault (key_bytes keys.now)) }
 {
-    let [first, rest @ ..] = keys else {
-        return Ok(());
-    };
-    let mut before = first;
-    for (i, key) in rest.iter().enumerate() {
-        check_neighbour(i + 1, before, key)?;
-        before = key;
+    for (i, pair) in keys.windows(2).enumerate() {
+        check_neighbour(i + 1, &pair[0], &pair[1])?;
     }
     Ok(())
 }
