@@ -2,7 +2,7 @@
 ghost use Rattle.std.specs.Prelude.{◌≤◌};
 
 /// At most sixteen signers.
-// kept: an array with its length beside it, since the list is copied, and an `ArrayVec` is no `Copy`
+// kept: an array with its length beside it, since `Copy` was promised, and an `ArrayVec` has none
 #[derive(Clone, Copy, Debug)]
 pub struct Signers {
     /// The signers, and behind them what does not belong to the list.

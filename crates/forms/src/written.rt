@@ -1,6 +1,7 @@
 //! What is written: numbers as values, and byte strings that are lent.
 use types::{Digest, Epoch, Height, Participant, Signature};
 
+// kept: four types beside those that are read: one for both would be `Ack<Part<'a>, Part<'a>>` there and `Ack<&'a Digest, &'a Signature>` here
 /// An ack to write: a signer's word, in one epoch, for the digest of a height.
 #[derive(Clone, Copy, Debug, PartialEq, Eq)]
 pub struct NewAck<'a> {

@@ -64,9 +64,9 @@ placed k (e ∷ es) up =
     (cases_Bool (lower x k.bytes))
 
 -- what the table of the keys answers is the position
-pub found : {V : Type 0} (k : PublicKey) (ks : List PublicKey) (rows : List (Entry PublicKey V)) (o : Option ℕ) → row_keys (take (length ks) rows) ≡ ks
-    → Ascending lower (key_bytes ks) → o ≡ place earlier k (take (length ks) rows) → o ≡ position k.bytes (key_bytes ks)
+pub found : {V : Type 0} (k : PublicKey) (ks : List PublicKey) (rows : List (Entry PublicKey V)) (o : Option ℕ) → row_keys rows ≡ ks
+    → Ascending lower (key_bytes ks) → o ≡ place earlier k rows → o ≡ position k.bytes (key_bytes ks)
 found k ks rows o same up answer =
     answer
-    ∙ placed k (take (length ks) rows) (subst (λ (js : List PublicKey). Ascending lower (key_bytes js)) (sym same) up)
+    ∙ placed k rows (subst (λ (js : List PublicKey). Ascending lower (key_bytes js)) (sym same) up)
     ∙ ap (λ (js : List PublicKey). position k.bytes (key_bytes js)) same

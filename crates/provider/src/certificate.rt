@@ -2,7 +2,7 @@
 ghost use Rattle.std.specs.Prelude.{◌≤◌};
 
 /// At most 1,026 bytes that show that a quorum signed.
-// kept: an array with its length beside it, since a certificate is copied, and an `ArrayVec` is no `Copy`
+// kept: an array with its length beside it, since `Copy` was promised, and an `ArrayVec` has none
 #[derive(Clone, Copy, Debug)]
 pub struct Certificate {
     /// The certificate's bytes, and behind them what does not belong to it.

@@ -1,24 +1,25 @@
 //! Where a key stands among the keys of its epoch.
-ghost use Rattle.std.specs.Prelude.{◌≡◌, ◌≤◌, length, take};
+ghost use Rattle.std.specs.Prelude.{◌≡◌, ◌≤◌, length};
 ghost use Rattle.provider.specs.Laws.{KeySet, position as place_of};
 ghost use Rattle.provider.specs.Positions.{row_keys};
 ghost use Rattle.provider.specs.Values.{key_bytes, number};
 
+use arrayvec::ArrayVec;
 use table::Entry;
 use types::{Participant, PublicKey};
 
-/// The keys as the first rows of a table; `other` fills the rows behind them.
-fn rows(keys: &[PublicKey], other: &PublicKey) -> [Entry<PublicKey, ()>; 16]
+/// The keys as the rows of a table.
+// kept: by the rules of the project a key's place is found by the table
+fn rows(keys: &[PublicKey]) -> ArrayVec<Entry<PublicKey, ()>, 16>
     requires { length keys.now ≤ 16 }
-    ensures { row_keys (take (length keys.now) result) ≡ keys.now }
+    ensures { row_keys result.items ≡ keys.now }
 {
-    let mut rows = [Entry {
-        key: *other,
-        value: (),
-    }; 16];
-    // kept: by index, tried as `array::from_fn`, whose clause gives a chain of states of the closure and no short proof
-    for (i, key) in keys.iter().enumerate() {
-        rows[i].key = *key;
+    let mut rows = ArrayVec::new();
+    for key in keys {
+        rows.push(Entry {
+            key: *key,
+            value: (),
+        });
     }
     rows
 }
@@ -30,6 +31,6 @@ pub fn position(keys: &[PublicKey], key: &PublicKey) -> Option<Participant>
     if keys.len() > 16 {
         return None;
     }
-    let place = table::position(&rows(keys, key)[..keys.len()], key)?;
+    let place = table::position(rows(keys).as_slice(), key)?;
     Some(Participant::new(place as u64))
 }

@@ -52,6 +52,7 @@ pub fn run(rt: &HostRuntime) -> anyhow::Result<()> {
     end(rt, &console)
 }
 
+// kept: a loop beside that of `run`: one `fn lines(rt, each: impl FnMut(&[u8]) -> anyhow::Result<()>)` for both is longer than a loop
 /// Runs recorded sessions over standard input, one after the other: a line `new` ends one and begins the next.
 pub fn replay(rt: &HostRuntime) -> anyhow::Result<()> {
     let mut console = Console::new();

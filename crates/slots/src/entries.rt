@@ -44,6 +44,7 @@ impl<'a> Entry<'a> {
     }
 
     // What is wrong with the record among these slots, if anything.
+    // kept: an `Option`, as the trait's `overrun` is: a `Result` would be turned into it for the contract
     pub(crate) fn defect(&self, slots: &[Slot]) -> Option<Defect>
         ensures { result ≡ flaw self.now.slot.now.len (aged (key_of self.now.at self.now.slot.now) slots.now) }
     {

@@ -53,6 +53,7 @@ impl SlotJournal<'_> {
     }
 
     // The first record with a defect.
+    // kept: an `Option`, as the trait's `overrun` is: a `Result` would be turned into it for the contract
     fn first_overrun(&self) -> Option<Overrun>
         ensures { result ≡ overrun_of self.now }
     {

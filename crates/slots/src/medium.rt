@@ -79,7 +79,7 @@ impl Medium<'_> {
         ensures left { self.new.power ≡ spent (unders section self.old.slots.now) self.old.power }
         ensures freed { Sweeping section (is_ok result) self.old.slots.now self.new.slots.now }
     {
-        // kept: by index, since an iterator over the slots would hold them, and each store borrows the whole medium.
+        // kept: by index, since each store borrows the whole medium, and of what a loop over `iter_mut` writes a proof knows the length alone
         for at in 0..self.slots.len() {
             self.free_one(at, section)?;
         }

@@ -37,6 +37,7 @@ pub(crate) fn next_record(slots: &[Slot], after: Option<Place>) -> Option<Record
 }
 
 // The first record with a defect.
+// kept: an `Option`, as the trait's `overrun` is: a `Result` would be turned into it for the contract
 pub(crate) fn first_overrun(slots: &[Slot]) -> Option<Overrun>
     ensures { result ≡ over slots.now }
 {

@@ -18,6 +18,7 @@ pub use updates::{insert, remove};
 pub trait Key: Copy + Ord {
     ghost less: { Self → Self → Bool };
 
+    // kept: a public function beside the derived `<`, whose clause is the order of the rules, as proofs cite it
     /// Whether this key comes before `other`.
     final fn before(&self, other: &Self) -> bool
         ensures { result ≡ less self.now other.now }

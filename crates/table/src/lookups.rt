@@ -7,6 +7,7 @@ ghost use Rattle.table.specs.Ends.{foremost, hindmost, Least, Greatest};
 use crate::{Entry, Key};
 
 /// The first place whose key is not below `key`, if there is one.
+// kept: from the front and not by a binary search, since the clauses hold for rows that do not ascend too
 fn ceiling<K: Key, V: Copy>(rows: &[Entry<K, V>], key: &K) -> Option<usize>
     ensures { result ≡ first_place (λ e. not (K.less e.key key.now)) rows.now }
 {

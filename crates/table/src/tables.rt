@@ -6,7 +6,7 @@ use crate::Entry;
 mod calls;
 
 /// At most `N` entries, in memory of a fixed size.
-// kept: an array with a length beside it, since fixed memory is the rule and `insert` and `remove` work over a lent slice; only here
+// kept: an array with a length beside it, since `insert` and `remove` need the free places as well, which an `ArrayVec` does not lend
 #[derive(Drop)]
 pub struct Table<K, V, const N: usize> {
     /// Room for as many entries as there can be.

@@ -24,7 +24,7 @@ pub type Digest = Bytes<Digests, 32>;
 /// A signature of a height and its digest.
 pub type Signature = Bytes<Signatures, 64>;
 
-// kept: by hand, since the kit derives no `Clone` over a ghost field
+// kept: by hand, since `derive` and `derive_where` (tried) give no `Clone` to a struct with parameters and a ghost field
 impl<K, const N: usize> Clone for Bytes<K, N> {
     ghost use Rattle.std.specs.Prelude.{⊤};
 
@@ -37,6 +37,19 @@ impl<K, const N: usize> Clone for Bytes<K, N> {
             bytes: self.bytes,
             of: PhantomData,
         })
+    }
+}
+
+impl<K, const N: usize> Default for Bytes<K, N> {
+    ghost use Rattle.std.specs.Prelude.{replicate};
+
+    ghost is_default = { λ b. b.bytes ≡ replicate N 0 };
+
+    fn default() -> Self {
+        Bytes {
+            bytes: [0; N],
+            of: PhantomData,
+        }
     }
 }
 
@@ -53,6 +66,7 @@ impl<K, const N: usize> Bytes<K, N> {
         }
     }
 
+    // kept: a public function beside the derived `==`, whose clause speaks of the bytes alone, as proofs cite it
     /// Whether the two are one, byte for byte.
     pub fn same(&self, other: &Self) -> bool
         ensures { result ≡ bytes_eq self.now.bytes other.now.bytes }

@@ -24,9 +24,9 @@ loop-signer-preserved c =
             ap back pushed ∙ listed_more m i list _ c.loop-signer-test.true (sym c.stands.ensures ∙ w.if-stands.true) c.loop-signer.invariant.1,
           )
       | else-stands w ↦ (
-          omega (arith, ap (λ (s : Signers). s.len) w.signers-is),
-          ap back (ap listed w.signers-is) ∙ listed_same m i list _ c.loop-signer-test.true (sym c.stands.ensures ∙ w.if-stands.false) c.loop-signer.invariant.1,
-        )
+        omega (arith, ap (λ (s : Signers). s.len) w.signers-is),
+        ap back (ap listed w.signers-is) ∙ listed_same m i list _ c.loop-signer-test.true (sym c.stands.ensures ∙ w.if-stands.false) c.loop-signer.invariant.1,
+      )
     ]
 
 pub returns : goal.returns
