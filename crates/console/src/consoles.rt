@@ -44,11 +44,7 @@ impl Console {
     {
         Self {
             board: Board::new(),
-            counts: Counts {
-                lines: 0,
-                counted: 0,
-                refused: 0,
-            },
+            counts: Counts::default(),
         }
     }
 

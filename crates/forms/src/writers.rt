@@ -71,6 +71,7 @@ fn tip_ack_len(message: &NewTipAck<'_>) -> usize
     message_len(message.tip, ack.height, ack.epoch, ack.signer)
 }
 
+// kept: two functions, here and with the lengths and the cursor: a trait for what is written, with its meaning, is longer than both
 /// Writes a record, and answers how many bytes it took.
 pub fn write_activity(out: &mut [u8], activity: &NewActivity<'_>) -> Result<usize, Short>
     ensures answer { result ≡ fitted (write (activity_from activity.now)) out.old }

@@ -14,10 +14,8 @@ pub fn read_hex(heap: Global, word: &[u8]) -> Result<Option<Vec<u8>>, AllocError
         return Ok(Some(Vec::new(heap)));
     }
     let mut bytes = vec![in heap; 0u8; word.len() / 2]?;
-    match hex::decode_to_slice(word, bytes.as_mut_slice()) {
-        Ok(()) => Ok(Some(bytes)),
-        Err(_) => Ok(None),
-    }
+    let decoded = hex::decode_to_slice(word, bytes.as_mut_slice());
+    Ok(decoded.is_ok().then_some(bytes))
 }
 
 /// Bytes that print as hex: lower case, and `-` for none.
