@@ -1,0 +1,28 @@
+-- What is written into an area. Assumes nothing.
+use Rattle.std.specs.Prelude.{◌≡◌, ℕ, ◌+◌, ◌/◌, ◌%◌, ◌<◌, List, [], ◌∷◌, ◌++◌, length, take, drop, slice_index, slice_set}
+
+-- these bytes in the place of as many from `at` on
+unfoldable pub put : ℕ → List ℕ → List ℕ → List ℕ
+put at bs out = take at out ++ bs ++ drop (at + length bs) out
+
+-- what follows the mark of a record: its length, its body and the next end mark
+unfoldable pub framed : List ℕ → List ℕ
+framed body = length body / 256 ∷ length body % 256 ∷ (body ++ 0 ∷ [])
+
+-- a record at a place: what follows its mark, and its mark
+unfoldable pub added : ℕ → List ℕ → List ℕ → List ℕ
+added at body bs = slice_set (put (at + 1) (framed body) bs) at 1
+
+-- the bytes below a place, and how many there are in all, stay as they were
+pub record Kept (place : ℕ) (old new : List ℕ) : Type 0 where
+  pub len : length new ≡ length old
+  pub same : (k : ℕ) → k < place → slice_index new k ≡ slice_index old k
+
+-- a number below 2^64 in eight bytes, the high one first
+unfoldable pub eight : ℕ → List ℕ
+eight n =
+    (n / 72057594037927936 % 256) ∷ (n / 281474976710656 % 256) ∷ (n / 1099511627776 % 256) ∷ (n / 4294967296 % 256) ∷ (n / 16777216 % 256) ∷ (n / 65536 % 256) ∷ (n / 256 % 256) ∷ (n % 256) ∷ []
+
+-- an area newly in use: its section, its first end mark, and its mark
+unfoldable pub begun : ℕ → List ℕ → List ℕ
+begun section bs = slice_set (slice_set (put 1 (eight section) bs) 9 0) 0 1

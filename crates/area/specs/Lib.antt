@@ -1,0 +1,4 @@
+pub mod Area
+pub mod Power
+pub mod Edits
+pub mod Writes

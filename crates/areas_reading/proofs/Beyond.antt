@@ -1,0 +1,52 @@
+-- Where an overrun is found. Assumes nothing.
+use Rattle.std.proofs.Common.{◌≡◌, ℕ, zero, suc, ◌+◌, ◌<◌, ◌≤◌, Bool, true, false, cond, List, [], ◌∷◌, ◌++◌, length, get_or, take, drop, is_some, Some, None, Option, sym, refl, ap, ◌∙◌, subst, arith}
+use Rattle.std.proofs.lemmas.List.{drop_more, drop_all}
+use Rattle.std.specs.Option.{option_map}
+use Rattle.area.specs.Area.{Area as Held, read, area_of, defect_of}
+use Rattle.journal.specs.declared.places.Defect.{Defect}
+use Rattle.area.proofs.Marks.{read_is}
+use Rattle.journal.specs.declared.places.Defect.{Defect}
+use Rattle.journal.specs.declared.places.Defect.TheVariants.{Area as SecondArea}
+use Rattle.journal.specs.declared.places.Overrun.{Overrun}
+use Rattle.areas.specs.Plan.{areas_of}
+use Rattle.areas_reading.specs.Overruns.{defect, overrun_at, behind, overrun_of, overrun_by, earlier, overrun_in}
+
+pub defect_is : (bs : List ℕ) (a : Held) → read bs ≡ Some a → a.defect ≡ defect_of bs
+unfolding area_of
+defect_is bs a e = let r = read_is bs a e in sym (ap (λ x. x.defect) r)
+
+pub of_none : (s : ℕ) (xs : List Held) → xs ≡ [] → None ≡ overrun_of s xs
+unfolding overrun_of
+of_none s xs e = sym (ap (overrun_of s) e)
+
+pub of_fault : (s n : ℕ) (d : Defect) (f : Defect) (a : Held) (xs rest : List Held) → xs ≡ a ∷ rest → n ≡ length a.records → a.defect ≡ Some f → d ≡ defect f → Some (overrun_at s n d) ≡ overrun_of s xs
+unfolding overrun_of behind
+of_fault s n d f a xs rest e l g h =
+    ap (λ x. Some (overrun_at s n x)) h ∙ ap (λ m. Some (overrun_at s m (defect f))) l ∙ sym (ap (overrun_of s) e ∙ ap (λ o. behind s (length a.records) o rest) g)
+
+pub of_sole : (s : ℕ) (a : Held) (xs rest : List Held) → xs ≡ a ∷ rest → a.defect ≡ None → rest ≡ [] → None ≡ overrun_of s xs
+unfolding overrun_of behind
+of_sole s a xs rest e g h = sym (ap (overrun_of s) e ∙ ap (λ o. behind s (length a.records) o rest) g ∙ ap (behind s (length a.records) None) h)
+
+pub of_second : (s n : ℕ) (a b : Held) (xs rest more : List Held) → xs ≡ a ∷ rest → n ≡ length a.records → a.defect ≡ None → rest ≡ b ∷ more → Some (overrun_at s n SecondArea) ≡ overrun_of s xs
+unfolding overrun_of behind
+of_second s n a b xs rest more e l g h =
+    ap (λ m. Some (overrun_at s m SecondArea)) l ∙ sym (ap (overrun_of s) e ∙ ap (λ o. behind s (length a.records) o rest) g ∙ ap (behind s (length a.records) None) h)
+
+pub by_none : (all : List (Option Held)) (o : Option Held) → option_map (λ a. a.section) o ≡ None → None ≡ overrun_by all o
+unfolding overrun_by
+by_none all None e = refl
+by_none all (Some a) e = let z : ◌≡◌ {A = ℕ} 0 1 = cc in absurd (omega arith)
+
+pub by_some : (all : List (Option Held)) (o : Option Held) (s : ℕ) → option_map (λ a. a.section) o ≡ Some s → overrun_of s (areas_of s all) ≡ overrun_by all o
+unfolding overrun_by
+by_some all None s e = let z : ◌≡◌ {A = ℕ} 0 1 = cc in absurd (omega arith)
+by_some all (Some a) s e = let z : a.section ≡ s = cc in ap (λ t. overrun_of t (areas_of t all)) (sym z)
+
+pub in_none : (all os : List (Option Held)) (i : ℕ) → length os ≤ i → None ≡ overrun_in all (drop i os)
+unfolding overrun_in
+in_none all os i h = sym (ap (overrun_in all) (drop_all i os h))
+
+pub in_more : (all os : List (Option Held)) (i : ℕ) → i < length os → overrun_in all (drop i os) ≡ earlier (overrun_by all (get_or os i None)) (overrun_in all (drop (i + 1) os))
+unfolding overrun_in
+in_more all os i h = ap (overrun_in all) (drop_more os i None h)

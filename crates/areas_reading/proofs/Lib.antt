@@ -1,0 +1,3 @@
+pub mod Beyond
+pub mod Lows
+pub mod Shows

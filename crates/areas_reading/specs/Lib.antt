@@ -1,0 +1,2 @@
+pub mod Overruns
+pub mod Next

@@ -1,0 +1,9 @@
+//! What is read from the areas of a byte journal: the next record, and the first overrun.
+#![tactic(auto)]
+
+mod low;
+mod nexts;
+mod overruns;
+
+pub use nexts::next;
+pub use overruns::overrun;

@@ -1,0 +1,56 @@
+//! Where reading a medium comes to something that is no record and no end.
+ghost use Rattle.std.specs.Prelude.{◌≡◌, ◌<◌, length, None, slice_index_or};
+ghost use Rattle.areas.specs.Plan.{plan, areas_of};
+ghost use Rattle.areas_reading.specs.Overruns.{overrun_of, overrun_by, earlier as Earlier, overrun as Overran};
+
+use areas::{count, find, part};
+use journal::{Defect, Overrun, Place};
+
+// The overrun of a section: behind the records of its first area, or its second area.
+fn overrun_of(medium: &[u8], section: u64) -> Option<Overrun>
+    ensures { result ≡ overrun_of section (areas_of section (plan medium.now)) }
+{
+    let i = find(medium, section, 0)?;
+    let area = part(medium, i);
+    let number = area::walk(area).count;
+    let place = Place { section, number };
+    if let Some(what) = area::defect(area) {
+        return Some(Overrun { place, what });
+    }
+    find(medium, section, i + 1)?;
+    Some(Overrun {
+        place,
+        what: Defect::Area,
+    })
+}
+
+// Of two overruns the one in the lower section.
+fn earlier(a: Option<Overrun>, b: Option<Overrun>) -> Option<Overrun>
+    ensures { result ≡ Earlier a b }
+{
+    match (a, b) {
+        (Some(x), Some(y)) => Some(if x.place.section <= y.place.section { x } else { y }),
+        (x, None) => x,
+        (None, y) => y,
+    }
+}
+
+// The overrun of the section of an area.
+fn overrun_by(medium: &[u8], i: usize) -> Option<Overrun>
+    requires { i < length (plan medium.now) }
+    ensures { result ≡ overrun_by (plan medium.now) (slice_index_or (plan medium.now) i None) }
+{
+    let section = area::section(part(medium, i))?;
+    overrun_of(medium, section)
+}
+
+/// The first overrun in reading order.
+pub fn overrun(medium: &[u8]) -> Option<Overrun>
+    ensures { result ≡ Overran (plan medium.now) }
+{
+    let mut first = None;
+    for i in (0..count(medium)).rev() {
+        first = earlier(overrun_by(medium, i), first);
+    }
+    first
+}
