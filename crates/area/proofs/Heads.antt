@@ -1,14 +1,17 @@
 -- What a new area, one with a record more, and a freed one read as. Assumes nothing.
-use Rattle.std.proofs.Common.{◌≡◌, ℕ, zero, suc, ◌+◌, ◌-◌, ◌*◌, ◌/◌, ◌%◌, ◌^◌, ◌<◌, ◌≤◌, Bool, true, false, ◌≢◌, List, [], ◌∷◌, ◌++◌, length, get_or, take, drop, set, Some, None, Ok, Err, Option, Result, sym, refl, ap, ◌∙◌, subst, arith, MatchResult}
-use Rattle.std.proofs.lemmas.List.{append-nil, append_assoc, length-append, length-take-le, length-drop, length-set, get_or_past, get_or-drop, get_or_at, get_or-append_right, get_or-set_other, get_or-set_same, drop-set-lt, drop_at, drop-drop, take_at, nil_from_length}
-use Rattle.journal.specs.declared.places.Defect.{Defect}
-use Rattle.area.specs.Area.{size, holds, body, records_at, extent, records_of, end_of, section_of, defect_of, area_of, read, Area, started, pushed}
+use Rattle.std.proofs.Common.{◌≡◌, ℕ, ◌+◌, ◌-◌, ◌*◌, ◌/◌, ◌%◌, ◌<◌, ◌≤◌, true, ◌≢◌, List, [], ◌∷◌, ◌++◌, length, get_or, take, drop, set, min, eqb, leb, Some, None, Ok, Err, Option, Result, sym, refl, ap, ◌∙◌, subst, arith}
+use Rattle.std.proofs.lemmas.List.{append_assoc, length-take-le, length-set, get_or-drop, get_or_at, get_or-append_right, get_or-set_other, get_or-set_same, drop-set-lt, drop_at, drop-drop, take_at, ext_get_or}
+use Rattle.area.specs.Area.{size, body, records_at, extent, records_of, end_of, section_of, defect_of, area_of, read, fits, started, pushed}
 use Rattle.area.specs.Edits.{Kept, put, framed, added, eight, begun}
 use Rattle.area.proofs.Steps.{holds-from, none_by_mark, at_more, at_none, of_used, end-past}
 use Rattle.area.proofs.Marks.{defect_used, defect_none, read_used, read-free}
 use Rattle.area.proofs.Puts.{kept_refl, kept_put, length-framed, length-put}
-use Rattle.area.proofs.Onward.{area_of_lem, section-same, end-onward, records-onward}
-use Rattle.area.proofs.Room.{Room}
+use Rattle.area.proofs.Onward.{area_of_lem, section-same, end-onward, records-onward, kept_read}
+use Rattle.area.proofs.Room.{Room, from-room}
+use Rattle.std.proofs.lemmas.Bool.{and_from, eq-eqb, le-leb}
+use Rattle.journal.specs.declared.stops.Stop.{Stop}
+use Rattle.journal.specs.declared.stops.Stop.TheVariants.{Full, Pruned, Off}
+use Rattle.area.specs.Writes.{Stored, Appended, Started, Freed}
 
 -- the eight bytes of a number give it back
 pub eight-back : (n : ℕ) → n < 18446744073709551616 → n / 72057594037927936 % 256 * 72057594037927936 + n / 281474976710656 % 256 * 281474976710656 + n / 1099511627776 % 256 * 1099511627776 + n / 4294967296 % 256 * 4294967296 + n / 16777216 % 256 * 16777216 + n / 65536 % 256 * 65536 + n / 256 % 256 * 256 + n % 256 ≡ n
@@ -160,3 +163,37 @@ module _ (bs new : List ℕ) (r : Room bs (length new)) where
       let f : defect_of c ≡ defect_of bs = defect_used c m ∙ defect_none _ (ap (λ i. get_or c i 0) d' ∙ more-end) ∙ sym (defect_used bs r.used ∙ defect_none _ r.ended) in
       let s : section_of c ≡ section_of bs = section-same bs c (λ i l. more_same i (omega arith)) in
       read_used c (λ q. omega arith) ∙ ap Some (area_of_lem s n f)
+
+-- what each writer does, from its stores
+
+pub appended_from : (bs new cs : List ℕ) (p q : Option ℕ) (e : ℕ) (r : Result (Unit {0}) Stop) → fits (length bs) (area_of bs) (length new) ≡ true → e ≡ end_of bs → Stored (length new + 4) (e + 1) bs (added e new bs) p r cs q → Appended bs p new r cs q
+appended_from bs new cs p q e (Ok x) f z w =
+    let m = from-room bs (length new) f in
+    let g : cs ≡ added (end_of bs) new bs = w.2 ∙ ap (λ k. added k new bs) z in
+    (f, w.0, w.1, g, ap read g ∙ added-read bs new m)
+appended_from bs new cs p q e (Err Full) f z w = absurd w
+appended_from bs new cs p q e (Err Pruned) f z w = w
+appended_from bs new cs p q e (Err Off) f z w =
+    let m = from-room bs (length new) f in
+    let k : Kept (end_of bs + 1) bs cs = subst (λ (k : ℕ). Kept (k + 1) bs cs) z w.2 in
+    (f, w.0, w.1, k, kept_read bs cs m.used m.ended k)
+
+pub started_from : (bs cs : List ℕ) (p q : Option ℕ) (s : ℕ) (r : Result (Unit {0}) Stop) → get_or bs 0 0 ≡ 0 → 9 < length bs → s < 18446744073709551616 → Stored 10 1 bs (begun s bs) p r cs q → Started bs p s r cs q
+started_from bs cs p q s (Ok x) m h f w =
+    let v = and_from (eqb (get_or bs 0 0) 0) (leb 10 (length bs)) (eq-eqb _ _ m) (le-leb _ _ (omega arith)) in
+    (v, w.0, w.1, w.2, ap read w.2 ∙ begun-read bs s h f)
+started_from bs cs p q s (Err Full) m h f w = absurd w
+started_from bs cs p q s (Err Pruned) m h f w = w
+started_from bs cs p q s (Err Off) m h f w =
+    let v = and_from (eqb (get_or bs 0 0) 0) (leb 10 (length bs)) (eq-eqb _ _ m) (le-leb _ _ (omega arith)) in
+    (v, w.0, w.1, w.2, free-read bs cs m w.2)
+
+pub freed_from : (bs cs : List ℕ) (p q : Option ℕ) (r : Result (Unit {0}) Stop) → 0 < length bs → Stored 1 (length bs) bs (set bs 0 0) p r cs q → Freed bs p r cs q
+freed_from bs cs p q (Ok x) h w =
+    let l : min 1 (length bs) ≡ 1 = omega arith in
+    simp l (w.0, w.1, w.2, ap read w.2 ∙ freed-read bs h)
+freed_from bs cs p q (Err Full) h w = w
+freed_from bs cs p q (Err Pruned) h w = w
+freed_from bs cs p q (Err Off) h w =
+    let l : min 1 (length bs) ≡ 1 = omega arith in
+    simp l (w.0, w.1, ext_get_or 0 cs bs w.2.len (λ i u. w.2.same i (omega (arith, w.2.len))))

@@ -1,13 +1,12 @@
 -- What an area reads as once bytes behind its records were written. Assumes nothing.
-use Rattle.std.proofs.Common.{◌≡◌, ℕ, zero, suc, ◌+◌, ◌-◌, ◌*◌, ◌/◌, ◌%◌, ◌<◌, ◌≤◌, Bool, true, false, cond, ◌≢◌, ◌⊎◌, List, [], ◌∷◌, ◌++◌, length, get_or, take, drop, set, Some, None, Option, sym, refl, ap, ◌∙◌, subst, inl, inr, arith}
-use Rattle.std.proofs.lemmas.List.{append-nil, append_assoc, length-append, length-take-le, length-drop, length-set, get_or_past, get_or-take, get_or-drop, get_or_at, ext_get_or, get_or-set_other, get_or-set_same, drop-set-lt, drop_at, drop-drop, take_at}
-use Rattle.std.proofs.lemmas.Bool.{cases_Bool, true≢false}
+use Rattle.std.proofs.Common.{◌≡◌, ℕ, zero, suc, ◌+◌, ◌<◌, ◌≤◌, true, false, ◌⊎◌, List, [], ◌∷◌, ◌++◌, length, get_or, take, drop, Some, Option, sym, refl, ap, ◌∙◌, inl, inr, arith}
+use Rattle.std.proofs.lemmas.List.{append-nil, length-take-le, length-drop, get_or-take, get_or-drop, ext_get_or}
+use Rattle.std.proofs.lemmas.Bool.{cases_Bool}
 use Rattle.journal.specs.declared.places.Defect.{Defect}
 use Rattle.area.specs.Area.{size, holds, body, records_at, extent, records_of, end_of, section_of, defect_of, area_of, read, Area}
-use Rattle.area.specs.Edits.{Kept, put, framed, added}
-use Rattle.area.proofs.Steps.{Whole, holds-from, whole_from, none_by_mark, length-body, at_more, at_none, extent-more, extent-append, of_used, end-past}
+use Rattle.area.specs.Edits.{Kept}
+use Rattle.area.proofs.Steps.{holds-from, whole_from, none_by_mark, at_more, at_none, extent-more, extent-append, of_used, end-past}
 use Rattle.area.proofs.Marks.{defect_used, defect_none, read_used}
-use Rattle.area.proofs.Puts.{kept_refl, kept_put, length-framed}
 
 size_same : (bs cs : List ℕ) (at : ℕ) → get_or cs (at + 1) 0 ≡ get_or bs (at + 1) 0 → get_or cs (at + 2) 0 ≡ get_or bs (at + 2) 0 → size cs at ≡ size bs at
 unfolding size

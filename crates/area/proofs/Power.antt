@@ -1,5 +1,5 @@
 -- What the power lasts, one part of the stores after another. Assumes nothing.
-use Rattle.std.proofs.Common.{◌≡◌, ℕ, ◌+◌, ◌-◌, ◌≤◌, List, Ok, Err, Bool, true, false, Some, None, Option, Result, sym, refl, ap, ◌∙◌, subst, arith}
+use Rattle.std.proofs.Common.{◌≡◌, ℕ, ◌+◌, ◌-◌, ◌≤◌, List, Ok, Err, true, false, Some, None, Option, Result, refl, ap, ◌∙◌, subst, arith}
 use Rattle.std.proofs.lemmas.Bool.{leb-true, leb-false, le-leb, lt-leb}
 use Rattle.journal.specs.declared.stops.Stop.{Stop}
 use Rattle.journal.specs.declared.stops.Stop.TheVariants.{Full, Pruned, Off}
@@ -55,13 +55,18 @@ stopped_early m t low place old mid whole new p q Pruned h l w = w
 stopped_early m t low place old mid whole new p q Off h l w =
     (lasts-first p m t h w.0, w.1 ∙ spent-first p m t h w.0, kept_less place low old new l w.2)
 
--- n stores after m stores that were made are m + n stores
-pub stored_then : (m n t low place : ℕ) (old mid whole new : List ℕ) (p q u : Option ℕ) (r : Result (Unit {0}) Stop) → t ≡ m + n → lasts m p ≡ true → q ≡ spent m p → Kept low old mid → low ≤ place → Stored n place mid whole q r new u → Stored t low old whole p r new u
-stored_then m n t low place old mid whole new p q u (Ok x) e a f k l w =
-    let b : lasts n (spent m p) ≡ true = subst (λ (o : Option ℕ). lasts n o ≡ true) f w.0 in
-    (lasts_both p m n t e a b, w.1 ∙ ap (spent n) f ∙ spent_both p m n t e, w.2)
-stored_then m n t low place old mid whole new p q u (Err Full) e a f k l w = w
-stored_then m n t low place old mid whole new p q u (Err Pruned) e a f k l w = w
-stored_then m n t low place old mid whole new p q u (Err Off) e a f k l w =
+-- the same of n stores after m stores that were made
+pub stopped_then : (m n t low place : ℕ) (old mid fin whole new : List ℕ) (p q u : Option ℕ) (s : Stop) → m + n ≤ t → lasts m p ≡ true → q ≡ spent m p → Kept low old mid → low ≤ place → Stored n place mid fin q (Err s) new u → Stored t low old whole p (Err s) new u
+stopped_then m n t low place old mid fin whole new p q u Full e a f k l w = w
+stopped_then m n t low place old mid fin whole new p q u Pruned e a f k l w = w
+stopped_then m n t low place old mid fin whole new p q u Off e a f k l w =
     let b : lasts n (spent m p) ≡ false = subst (λ (o : Option ℕ). lasts n o ≡ false) f w.0 in
-    (lasts-second p m n t (omega arith) a b, w.1 ∙ ap (spent n) f ∙ spent-second p m n t (omega arith) b, kept_then low old mid new k (kept_less place low mid new l w.2))
+    (lasts-second p m n t e a b, w.1 ∙ ap (spent n) f ∙ spent-second p m n t e b, kept_then low old mid new k (kept_less place low mid new l w.2))
+
+-- m stores that were made, and n stores after them, are m + n stores
+pub stored_then : (m n t low place : ℕ) (old mid fin whole new : List ℕ) (p q u : Option ℕ) (r : Result (Unit {0}) Stop) → t ≡ m + n → lasts m p ≡ true → q ≡ spent m p → Kept low old mid → low ≤ place → fin ≡ whole → Stored n place mid fin q r new u → Stored t low old whole p r new u
+stored_then m n t low place old mid fin whole new p q u (Ok x) e a f k l z w =
+    let b : lasts n (spent m p) ≡ true = subst (λ (o : Option ℕ). lasts n o ≡ true) f w.0 in
+    (lasts_both p m n t e a b, w.1 ∙ ap (spent n) f ∙ spent_both p m n t e, w.2 ∙ z)
+stored_then m n t low place old mid fin whole new p q u (Err s) e a f k l z w =
+    stopped_then m n t low place old mid fin whole new p q u s (omega arith) a f k l w

@@ -1,7 +1,7 @@
 -- What is written at a place, and what it leaves. Assumes nothing.
-use Rattle.std.proofs.Common.{◌≡◌, ℕ, zero, suc, ◌+◌, ◌-◌, ◌*◌, ◌/◌, ◌%◌, ◌<◌, ◌≤◌, ◌≢◌, List, [], ◌∷◌, ◌++◌, length, get_or, take, drop, set, sym, refl, ap, ◌∙◌, subst, arith}
-use Rattle.std.proofs.lemmas.List.{take-append-drop, append_assoc, append-nil, set-append_right, length-take-le, length-append, drop-set, drop_more, take_more, length-drop, get_or-set_other, get_or-set_same, length-set, get_or_append_left, get_or-take, drop_at, take_at, get_or-drop, drop-drop, ext_get_or, drop-set-lt, get_or_at, length-take}
-use Rattle.area.specs.Edits.{put, Kept, framed, added}
+use Rattle.std.proofs.Common.{◌≡◌, ℕ, ◌+◌, ◌-◌, ◌/◌, ◌%◌, ◌<◌, ◌≤◌, ◌≢◌, List, [], ◌∷◌, ◌++◌, length, get_or, take, drop, set, sym, refl, ap, ◌∙◌, subst, arith}
+use Rattle.std.proofs.lemmas.List.{take-append-drop, append_assoc, append-nil, set-append_right, length-take-le, length-append, drop_more, length-drop, get_or-set_other, length-set, get_or_append_left, get_or-take, drop_at, take_at, drop-drop}
+use Rattle.area.specs.Edits.{put, Kept, framed}
 
 pub put_none : (at : ℕ) (out : List ℕ) → put at [] out ≡ out
 unfolding put
@@ -64,6 +64,11 @@ kept_put e p bs old new h l k =
           let q : i < p = omega arith in
           ap (λ x. get_or x i 0) (append_assoc (take p new) bs (drop (p + length bs) new)) ∙ get_or_append_left (take p new) (bs ++ drop (p + length bs) new) 0 i a ∙ get_or-take p new i 0 q ∙ k.same i j;
     }
+
+-- what was put leaves the bytes below its place
+pub kept_by : (e p : ℕ) (bs old mid : List ℕ) → mid ≡ put p bs old → e ≤ p → p + length bs ≤ length old → Kept e old mid
+kept_by e p bs old mid w h l =
+    subst (λ (a : List ℕ). Kept e old a) (sym w) (kept_put e p bs old old h l (kept_refl e old))
 
 pub kept_then : (e : ℕ) (a b c : List ℕ) → Kept e a b → Kept e b c → Kept e a c
 kept_then e a b c k l = record { len = l.len ∙ k.len; same = λ i h. l.same i h ∙ k.same i h }

@@ -1,17 +1,8 @@
 -- How the records of an area follow one another. Assumes nothing.
-use Rattle.std.proofs.Common.{◌≡◌, ℕ, zero, suc, ◌+◌, ◌-◌, ◌*◌, ◌<◌, ◌≤◌, min, Bool, true, false, cond, ◌&&◌, eqb, ltb, leb, ◌⊎◌, List, [], ◌∷◌, ◌++◌, length, get_or, take, drop, Some, None, Option, sym, refl, ap, ◌∙◌, subst, inl, inr, arith}
-use Rattle.std.proofs.lemmas.List.{append-nil, length-take-le, length-drop, get_or_past, get_or-take, get_or-drop, ext_get_or, drop-drop}
-use Rattle.std.proofs.lemmas.Bool.{and_from, and_parts, and_left, and_right, eq-eqb, ne_eqb, eqb-true, eqb-false, le-leb, leb-true, leb-false, lt-leb, cond-true, cond-false, cases_Bool, cases_eq}
-use Rattle.std.proofs.lemmas.Option.{slice_get_past}
-use Rattle.std.specs.List.{slice_get}
+use Rattle.std.proofs.Common.{◌≡◌, ℕ, zero, suc, ◌+◌, ◌<◌, ◌≤◌, true, false, ◌⊎◌, List, [], ◌∷◌, ◌++◌, length, get_or, drop, sym, refl, ap, ◌∙◌, inl, inr, arith}
+use Rattle.std.proofs.lemmas.List.{length-take-le, length-drop, get_or_past}
+use Rattle.std.proofs.lemmas.Bool.{and_from, and_parts, and_left, eq-eqb, ne_eqb, eqb-true, le-leb, leb-true, cond-true, cond-false, cases_Bool, cases_eq, cases_lt}
 use Rattle.area.specs.Area.{size, holds, body, records_by, records_at, extent, records_of, end_of}
-use Rattle.area.specs.Edits.{Kept}
-
-pub nth_drop : {X : Type 0} (xs : List X) (n : ℕ) → slice_get xs n ≡ slice_get (drop n xs) 0
-nth_drop [] zero = refl
-nth_drop [] (suc n) = refl
-nth_drop (x ∷ xs) zero = refl
-nth_drop (x ∷ xs) (suc n) = nth_drop xs n
 
 -- a whole record, from its three tests, and back
 
@@ -36,18 +27,9 @@ pub none_by_mark : (bs : List ℕ) (at : ℕ) → (get_or bs at 0 ≡ 1 → ⊥)
 unfolding holds
 none_by_mark bs at m = and_left _ _ (ne_eqb _ _ m)
 
-pub none_by_length : (bs : List ℕ) (at : ℕ) → 1068 < size bs at → holds bs at ≡ false
-unfolding holds
-none_by_length bs at h = and_right (eqb (get_or bs at 0) 1) _ (and_left _ _ (lt-leb _ _ h))
-
-pub none_by_end : (bs : List ℕ) (at : ℕ) → length bs < at + 3 + size bs at → holds bs at ≡ false
-unfolding holds
-none_by_end bs at h =
-    and_right (eqb (get_or bs at 0) 1) _ (and_right (leb (size bs at) 1068) _ (lt-leb _ _ h))
-
 -- a byte that is not 0 lies inside
 pub inside_by_mark : (bs : List ℕ) (at : ℕ) → get_or bs at 0 ≡ 1 → at < length bs
-inside_by_mark bs at m = go (Rattle.std.proofs.lemmas.Bool.cases_lt at (length bs))
+inside_by_mark bs at m = go (cases_lt at (length bs))
   where
     go : (at < length bs) ⊎ (length bs ≤ at) → at < length bs
     go (inl h) = h
@@ -99,6 +81,21 @@ pub at_none : (bs : List ℕ) (at : ℕ) → holds bs at ≡ false → records_a
 unfolding records_at
 at_none bs at h = by_none (length bs) bs at h
 
+-- no record stands at the end of the bytes
+pub past_end : (bs : List ℕ) → records_at bs (length bs) ≡ []
+past_end bs = at_none bs (length bs) (none_by_mark bs (length bs) (λ m. let i = inside_by_mark bs (length bs) m in absurd (omega arith)))
+
+-- a body, and the place behind it
+
+pub body_inside : (bs : List ℕ) (at : ℕ) → holds bs at ≡ true → at + 3 + length (body bs at) ≤ length bs
+body_inside bs at h = let w = whole_from bs at h in let l = length-body bs at h in let i = w.inside in omega arith
+
+pub at_next : (bs b : List ℕ) (at next : ℕ) → holds bs at ≡ true → b ≡ body bs at → next ≡ at + (3 + length b) → records_at bs at ≡ b ∷ records_at bs next
+at_next bs b at next h e n =
+    let l = length-body bs at h in
+    let z : next ≡ at + 3 + size bs at = n ∙ ap (λ (x : List ℕ). at + (3 + length x)) e ∙ omega arith in
+    at_more bs at h ∙ ap (λ r. r ∷ records_at bs (at + 3 + size bs at)) (sym e) ∙ ap (λ m. b ∷ records_at bs m) (sym z)
+
 -- the records of an area whose mark is 1, and of another
 
 pub of_used : (bs : List ℕ) → get_or bs 0 0 ≡ 1 → records_of bs ≡ records_at bs 9
@@ -117,9 +114,6 @@ extent-more bs at next h e =
     let l = length-body bs at h in
     simp (m, l, e) (omega arith)
 
-pub count-more : (bs : List ℕ) (at next : ℕ) → holds bs at ≡ true → next ≡ at + 3 + size bs at → length (records_at bs at) ≡ length (records_at bs next) + 1
-count-more bs at next h e = simp (at_more bs at h, e) (omega arith)
-
 -- there are fewer records than bytes
 pub count_by : (most : ℕ) (bs : List ℕ) (at : ℕ) → length (records_by most bs at) ≤ most
 unfolding records_by
@@ -134,40 +128,7 @@ pub count_at : (bs : List ℕ) (at : ℕ) → length (records_at bs at) ≤ leng
 unfolding records_at
 count_at bs at = count_by (length bs) bs at
 
--- at the end of a walk
-pub walked : (bs : List ℕ) (at count : ℕ) → get_or bs 0 0 ≡ 1 → holds bs at ≡ false → at + extent (records_at bs at) ≡ 9 + extent (records_at bs 9) → count + length (records_at bs at) ≡ length (records_at bs 9) → (count ≡ length (records_of bs)) × (at ≡ end_of bs)
-unfolding end_of extent
-walked bs at count m h e l =
-    let n = at_none bs at h in
-    let u = of_used bs m in
-    let e' : at + extent [] ≡ 9 + extent (records_at bs 9) = ap (λ rs. at + extent rs) (sym n) ∙ e in
-    let l' : count + 0 ≡ length (records_at bs 9) = ap (λ rs. count + length rs) (sym n) ∙ l in
-    simp u (omega arith, omega arith)
-
-pub not_walked : (bs : List ℕ) → (get_or bs 0 0 ≡ 1 → ⊥) → (◌≡◌ {A = ℕ} 0 (length (records_of bs))) × (◌≡◌ {A = ℕ} 9 (end_of bs))
-unfolding end_of extent
-not_walked bs m = simp (of_other bs m) (refl, refl)
-
 -- a record by its number
-
-pub nth_none : (bs : List ℕ) (number : ℕ) → (get_or bs 0 0 ≡ 1 → ⊥) → None ≡ slice_get (records_of bs) number
-nth_none bs number m = simp (of_other bs m)
-
--- past the passed records nothing is left
-pub nth_missing : (bs : List ℕ) (at passed number : ℕ) → get_or bs 0 0 ≡ 1 → passed ≤ number → drop passed (records_at bs 9) ≡ records_at bs at → holds bs at ≡ false → None ≡ slice_get (records_of bs) number
-nth_missing bs at passed number m le d h =
-    let l : length (records_at bs 9) - passed ≡ 0 = sym (length-drop passed (records_at bs 9)) ∙ ap length (d ∙ at_none bs at h) in
-    sym (ap (λ rs. slice_get rs number) (of_used bs m) ∙ slice_get_past (records_at bs 9) number (omega arith))
-
-pub nth_passed : (bs : List ℕ) (at passed next : ℕ) → drop passed (records_at bs 9) ≡ records_at bs at → holds bs at ≡ true → next ≡ at + 3 + size bs at → drop (passed + 1) (records_at bs 9) ≡ records_at bs next
-nth_passed bs at passed next d h e =
-    sym (drop-drop 1 passed (records_at bs 9)) ∙ ap (drop 1) (d ∙ at_more bs at h) ∙ ap (records_at bs) (sym e)
-
-pub nth_found : (bs : List ℕ) (at number next : ℕ) → get_or bs 0 0 ≡ 1 → drop number (records_at bs 9) ≡ records_at bs at → holds bs at ≡ true → next ≡ at + 3 + size bs at → Some (take (next - (at + 3)) (drop (at + 3) bs)) ≡ slice_get (records_of bs) number
-unfolding body
-nth_found bs at number next m d h e =
-    let n : next - (at + 3) ≡ size bs at = omega arith in
-    ap (λ k. Some (take k (drop (at + 3) bs))) n ∙ sym (ap (λ rs. slice_get rs number) (of_used bs m) ∙ nth_drop (records_at bs 9) number ∙ ap (λ rs. slice_get rs 0) (d ∙ at_more bs at h))
 
 pub extent-append : (rs ts : List (List ℕ)) → extent (rs ++ ts) ≡ extent rs + extent ts
 unfolding extent
@@ -184,4 +145,34 @@ count_of bs = go (cases_eq (get_or bs 0 0) 1)
   where
     go : (get_or bs 0 0 ≡ 1) ⊎ (get_or bs 0 0 ≡ 1 → ⊥) → length (records_of bs) ≤ length bs
     go (inl m) = simp (of_used bs m) (count_at bs 9)
+    go (inr m) = simp (of_other bs m) (omega arith)
+
+-- the records lie inside
+inside_none : (bs : List ℕ) (at : ℕ) → holds bs at ≡ false → at ≤ length bs → at + extent (records_at bs at) ≤ length bs
+unfolding extent
+inside_none bs at h i = simp (at_none bs at h) (omega arith)
+
+inside_by : (f : ℕ) (bs : List ℕ) (at : ℕ) → length bs ≤ f + at → at ≤ length bs → at + extent (records_at bs at) ≤ length bs
+inside_by zero bs at l i = go (cases_Bool (holds bs at))
+  where
+    go : (holds bs at ≡ true) ⊎ (holds bs at ≡ false) → at + extent (records_at bs at) ≤ length bs
+    go (inl h) = let w = whole_from bs at h in absurd (omega (arith, w.inside))
+    go (inr h) = inside_none bs at h i
+inside_by (suc f) bs at l i = go (cases_Bool (holds bs at)) (inside_by f bs (at + 3 + size bs at) (omega arith))
+  where
+    go : (holds bs at ≡ true) ⊎ (holds bs at ≡ false) → (at + 3 + size bs at ≤ length bs → at + 3 + size bs at + extent (records_at bs (at + 3 + size bs at)) ≤ length bs) → at + extent (records_at bs at) ≤ length bs
+    go (inl h) ih = let w = whole_from bs at h in let j = ih w.inside in let x = extent-more bs at (at + 3 + size bs at) h refl in omega arith
+    go (inr h) ih = inside_none bs at h i
+
+end_at : (bs : List ℕ) → (length bs < 9) ⊎ (9 ≤ length bs) → 9 + extent (records_at bs 9) ≤ 9 + length bs
+unfolding extent
+end_at bs (inr h) = let i = inside_by (length bs) bs 9 (omega arith) h in omega arith
+end_at bs (inl h) = let n = at_none bs 9 (none_by_mark bs 9 (λ m. let i = inside_by_mark bs 9 m in absurd (omega arith))) in simp n (omega arith)
+
+pub end_inside : (bs : List ℕ) → end_of bs ≤ 9 + length bs
+unfolding end_of extent
+end_inside bs = go (cases_eq (get_or bs 0 0) 1)
+  where
+    go : (get_or bs 0 0 ≡ 1) ⊎ (get_or bs 0 0 ≡ 1 → ⊥) → 9 + extent (records_of bs) ≤ 9 + length bs
+    go (inl m) = simp (of_used bs m) (end_at bs (cases_lt (length bs) 9))
     go (inr m) = simp (of_other bs m) (omega arith)

@@ -1,5 +1,5 @@
 -- What the bytes of one area mean: a mark, a section in eight bytes, and then the records. Past the last byte every byte counts as 0. Assumes nothing.
-use Rattle.std.specs.Prelude.{◌≡◌, ℕ, zero, suc, ◌+◌, ◌*◌, ◌<◌, ◌≤◌, Bool, true, false, cond, not, ◌&&◌, List, [], ◌∷◌, ◌++◌, length, take, drop, is_some, Some, None, Option, ◌==◌, nat_le, nat_lt, slice_index}
+use Rattle.std.specs.Prelude.{ℕ, zero, suc, ◌+◌, ◌*◌, Bool, cond, not, ◌&&◌, List, [], ◌∷◌, ◌++◌, length, take, drop, is_some, Some, None, Option, ◌==◌, nat_le, nat_lt, slice_index}
 use Rattle.journal.specs.declared.places.Defect.{Defect}
 use Rattle.journal.specs.declared.places.Defect.TheVariants.{Mark, Length}
 

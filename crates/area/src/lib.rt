@@ -2,7 +2,9 @@
 #![tactic(auto)]
 
 mod reads;
+mod records;
 mod writes;
 
-pub use reads::{Tail, defect, record, section, walk};
+pub use reads::{defect, record, section};
+pub use records::Records;
 pub use writes::{append, free, start};

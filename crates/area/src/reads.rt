@@ -1,95 +1,15 @@
 //! What the bytes of an area say.
-ghost use Rattle.std.specs.Prelude.{◌≡◌, ◌+◌, ◌≤◌, true, false, length, MatchOption, slice_index};
+ghost use Rattle.std.specs.Prelude.{◌≡◌, true, false, MatchOption};
 ghost use Rattle.std.specs.Option.{option_map};
 ghost use Rattle.std.specs.List.{slice_get};
-ghost use Rattle.area.specs.Area.{size, holds, records_of, end_of, defect_at, defect_of, read};
+ghost use Rattle.area.specs.Area.{records_of, end_of, defect_at, defect_of, read};
 ghost use Rattle.area.specs.Writes.{room_in};
 
+use crate::records::{HEAD, MARK, NO_MARK, Records, byte};
 use journal::{Defect, MAX_RECORD};
 
-/// What marks an area in use, and each record in it.
-pub(crate) const MARK: u8 = 1;
-
-/// What stands in the place of a mark in a free area, and behind the last record.
-pub(crate) const NO_MARK: u8 = 0;
-
-/// Where the records of an area begin: behind its mark and its section.
-pub(crate) const HEAD: usize = 9;
-
-/// How many records an area has, and the place behind them.
-#[derive(Clone, Copy, Debug, PartialEq, Eq)]
-pub struct Tail {
-    /// How many records there are.
-    pub count: u64,
-    /// Where the mark of the next one would stand.
-    pub end: usize,
-}
-
-// The byte at a place; past the last byte each counts as 0.
-fn byte(area: &[u8], at: usize) -> u8
-    ensures { result ≡ slice_index area.now at }
-{
-    area.get(at).copied().unwrap_or(0)
-}
-
-// The length that stands behind a record's mark.
-fn length_at(area: &[u8], at: usize) -> usize
-    requires { at + 3 ≤ length area.now }
-    ensures { result ≡ size area.now at }
-{
-    usize::from(u16::from_be_bytes([area[at + 1], area[at + 2]]))
-}
-
-// The place behind the record at `at`; `None` where no whole record stands there.
-fn following(area: &[u8], at: usize) -> Option<usize>
-    ensures { MatchOption result (holds area.now at ≡ false) (λ n. (holds area.now at ≡ true) × (n ≡ at + 3 + size area.now at) × (n ≤ length area.now)) }
-{
-    if byte(area, at) != MARK {
-        return None;
-    }
-    if area.len() - at < 3 {
-        return None;
-    }
-    let len = length_at(area, at);
-    if len > MAX_RECORD || len > area.len() - at - 3 {
-        return None;
-    }
-    Some(at + 3 + len)
-}
-
-/// Goes over the records of an area.
-pub fn walk(area: &[u8]) -> Tail
-    ensures count { result.count ≡ length (records_of area.now) }
-    ensures end { result.end ≡ end_of area.now }
-{
-    let mut count = 0;
-    let mut at = HEAD;
-    if byte(area, 0) != MARK {
-        return Tail { count, end: at };
-    }
-    while let Some(next) = following(area, at) {
-        at = next;
-        count += 1;
-    }
-    Tail { count, end: at }
-}
-
-/// The record of this number, counted from 0.
-pub fn record(area: &[u8], number: u64) -> Option<&[u8]>
-    ensures { option_map (λ x. x.now) result ≡ slice_get (records_of area.now) number }
-{
-    if byte(area, 0) != MARK {
-        return None;
-    }
-    let mut at = HEAD;
-    for _ in 0..number {
-        at = following(area, at)?;
-    }
-    let next = following(area, at)?;
-    Some(&area[at + 3..next])
-}
-
 /// The section of an area in use; `None` of a free one.
+#[tactic(auto, unfolding(crate::specs::Area::read, crate::specs::Area::area_of, crate::specs::Area::section_of))]
 pub fn section(area: &[u8]) -> Option<u64>
     ensures { result ≡ option_map (λ a. a.section) (read area.now) }
 {
@@ -108,17 +28,27 @@ pub fn section(area: &[u8]) -> Option<u64>
     ]))
 }
 
-/// What stands behind the records of an area in use in the place of the end mark, if anything does.
-pub fn defect(area: &[u8]) -> Option<Defect>
-    ensures { result ≡ defect_of area.now }
+/// The record of this number, counted from 0.
+pub fn record(area: &[u8], number: u64) -> Option<&[u8]>
+    ensures { option_map (λ x. x.now) result ≡ slice_get (records_of area.now) number }
 {
-    if byte(area, 0) != MARK {
-        return Some(Defect::Mark);
+    Records::new(area).nth(number as usize)
+}
+
+// The place behind the records, where the end mark is to stand.
+#[tactic(auto, using(crate::proofs::Steps::end_inside), unfolding(crate::specs::Area::end_of, crate::specs::Area::extent))]
+fn end(area: &[u8]) -> usize
+    ensures { result ≡ end_of area.now }
+{
+    let mut end = HEAD;
+    for body in Records::new(area) {
+        end += 3 + body.len();
     }
-    judge(byte(area, walk(area).end))
+    end
 }
 
 // What a byte says that stands where no whole record does.
+#[tactic(auto, unfolding(crate::specs::Area::defect_at))]
 fn judge(mark: u8) -> Option<Defect>
     ensures { result ≡ defect_at mark }
 {
@@ -129,16 +59,29 @@ fn judge(mark: u8) -> Option<Defect>
     }
 }
 
+/// What stands behind the records of an area in use in the place of the end mark, if anything does.
+#[tactic(auto, unfolding(crate::specs::Area::defect_of))]
+pub fn defect(area: &[u8]) -> Option<Defect>
+    ensures { result ≡ defect_of area.now }
+{
+    if byte(area, 0) != MARK {
+        return Some(Defect::Mark);
+    }
+    judge(byte(area, end(area)))
+}
+
 // The place for the mark of one record more, of `len` bytes; `None` where it has no room.
+#[tactic(auto, using(crate::proofs::Steps::end_inside), unfolding(crate::specs::Area::fits, crate::specs::Area::area_of, crate::specs::Area::end_of))]
 pub(crate) fn room(area: &[u8], len: usize) -> Option<usize>
     ensures { MatchOption result (room_in area.now len ≡ false) (λ e. (room_in area.now len ≡ true) × (e ≡ end_of area.now)) }
 {
-    let end = walk(area).end;
-    if byte(area, 0) != MARK || byte(area, end) != NO_MARK || len > MAX_RECORD {
+    if defect(area).is_some() || len > MAX_RECORD {
         return None;
     }
-    if area.len() <= end || area.len() - end <= 3 + len {
-        return None;
+    let end = end(area);
+    if end + 3 + len < area.len() {
+        Some(end)
+    } else {
+        None
     }
-    Some(end)
 }

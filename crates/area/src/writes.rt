@@ -3,13 +3,14 @@ ghost use Rattle.std.specs.Prelude.{◌≡◌, ◌+◌, ◌<◌, ◌≤◌, leng
 ghost use Rattle.area.specs.Edits.{put, framed, added, begun};
 ghost use Rattle.area.specs.Writes.{Appended, Freed, Started, Stored};
 
-use crate::reads::{HEAD, MARK, NO_MARK, room};
+use crate::reads::room;
+use crate::records::{HEAD, MARK, NO_MARK};
 use journal::Stop;
 
 // Stores one byte, if there is power for it: the only writer.
 fn store(area: &mut [u8], power: &mut Option<u64>, at: usize, byte: u8) -> Result<(), Stop>
     requires { at < length area.old }
-    ensures { Stored 1 at area.old (slice_set area.old at byte) power.old result area.new power.new }
+    ensures { Stored 1 (length area.old) area.old (slice_set area.old at byte) power.old result area.new power.new }
 {
     if let Some(stores) = *power {
         *power = Some(stores.checked_sub(1).ok_or(Stop::Off)?);
@@ -19,12 +20,7 @@ fn store(area: &mut [u8], power: &mut Option<u64>, at: usize, byte: u8) -> Resul
 }
 
 // Stores the bytes of `part` one by one from `at` on.
-fn store_all(
-    area: &mut [u8],
-    power: &mut Option<u64>,
-    at: usize,
-    part: &[u8],
-) -> Result<(), Stop>
+fn store_all(area: &mut [u8], power: &mut Option<u64>, at: usize, part: &[u8]) -> Result<(), Stop>
     requires { at + length part.now ≤ length area.old }
     ensures { Stored (length part.now) at area.old (put at part.now area.old) power.old result area.new power.new }
 {
@@ -97,6 +93,7 @@ pub fn start(area: &mut [u8], power: &mut Option<u64>, section: u64) -> Result<(
 }
 
 /// Frees an area.
+#[tactic(auto, unfolding(crate::specs::Area::read))]
 pub fn free(area: &mut [u8], power: &mut Option<u64>) -> Result<(), Stop>
     ensures { Freed area.old power.old result area.new power.new }
 {

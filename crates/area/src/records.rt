@@ -1,0 +1,85 @@
+//! The records of an area, one after the other.
+ghost use Rattle.std.specs.Prelude.{◌≡◌, true, false, MatchOption, slice_index};
+ghost use Rattle.std.specs.Iterator.{YieldsFirstRef, item_count};
+ghost use Rattle.area.specs.Area.{body, holds, records_of, size};
+ghost use Rattle.area.specs.Records.{left};
+
+use journal::MAX_RECORD;
+
+/// What marks an area in use, and each record in it.
+pub(crate) const MARK: u8 = 1;
+
+/// What stands in the place of a mark in a free area, and behind the last record.
+pub(crate) const NO_MARK: u8 = 0;
+
+/// Where the first record of an area stands: behind the mark and the section.
+pub(crate) const HEAD: usize = 9;
+
+// The byte at a place; past the last byte each counts as 0.
+pub(crate) fn byte(area: &[u8], at: usize) -> u8
+    ensures { result ≡ slice_index area.now at }
+{
+    area.get(at).copied().unwrap_or(0)
+}
+
+// The length behind the mark of a record at `at`.
+#[tactic(auto, unfolding(crate::specs::Area::size))]
+fn length_at(area: &[u8], at: usize) -> usize
+    requires { slice_index area.now at ≡ 1 }
+    ensures { result ≡ size area.now at }
+{
+    usize::from(u16::from_be_bytes([byte(area, at + 1), byte(area, at + 2)]))
+}
+
+// The body of the record at `at`; `None` where no whole record stands there.
+#[tactic(auto, unfolding(crate::specs::Area::holds, crate::specs::Area::body))]
+fn body_at(area: &[u8], at: usize) -> Option<&[u8]>
+    ensures { MatchOption result (holds area.now at ≡ false) (λ b. (holds area.now at ≡ true) × (b.now ≡ body area.now at)) }
+{
+    if byte(area, at) != MARK {
+        return None;
+    }
+    let len = length_at(area, at);
+    if len > MAX_RECORD {
+        return None;
+    }
+    area.get(at + 3..at + 3 + len)
+}
+
+/// The records of an area, from the first to the last.
+#[derive(Drop)]
+pub struct Records<'a> {
+    area: &'a [u8],
+    // the place of the next one's mark
+    at: usize,
+}
+
+impl<'a> Records<'a> {
+    /// The records of the area, up to the end mark, or to something that is neither a record nor the end.
+    #[tactic(auto, using(crate::proofs::Steps::past_end), unfolding(crate::specs::Area::records_of))]
+    pub fn new(area: &'a [u8]) -> Self
+        ensures { left result ≡ records_of area.now }
+    {
+        let at = if byte(area, 0) == MARK {
+            HEAD
+        } else {
+            area.len()
+        };
+        Self { area, at }
+    }
+}
+
+impl<'a> Iterator for Records<'a> {
+    type Item = &'a [u8];
+
+    ghost next_gives = { YieldsFirstRef left };
+
+    ghost remaining = { item_count left };
+
+    #[tactic(auto, using(crate::proofs::Steps::at_none, crate::proofs::Steps::at_next, crate::proofs::Steps::body_inside))]
+    fn next(&mut self) -> Option<&'a [u8]> {
+        let body = body_at(self.area, self.at)?;
+        self.at += 3 + body.len();
+        Some(body)
+    }
+}
