@@ -1,9 +1,9 @@
 -- The areas of a medium as parts of its bytes. Assumes nothing.
-use Rattle.std.proofs.Common.{◌≡◌, ℕ, zero, suc, ◌+◌, ◌-◌, ◌*◌, ◌/◌, ◌<◌, ◌≤◌, min, ◌≢◌, ◌⊎◌, List, [], ◌∷◌, ◌++◌, map, length, get_or, take, drop, set, Some, None, Option, sym, refl, ap, ◌∙◌, subst, inl, inr, arith}
+use Rattle.std.proofs.Common.{◌≡◌, ℕ, zero, suc, ◌+◌, ◌-◌, ◌*◌, ◌/◌, ◌<◌, ◌≤◌, ◌⊎◌, List, [], ◌++◌, length, get_or, take, drop, set, None, sym, refl, ap, ◌∙◌, inl, inr, arith}
 use borrow.Rule.Slice.PartMut.{put_mid}
 use Rattle.std.proofs.lemmas.List.{length-take-le, length-take, length-drop, length-map, length-set, length-append, get_or-take, get_or-drop, get_or-map, get_or_append_left, get_or-append_right, get_or-set_same, get_or-set_other, drop-drop, ext_get_or, take-take, take-append-drop}
-use Rattle.std.proofs.lemmas.Bool.{cases_eq, cases_order, cases_lt}
-use Rattle.area.specs.Area.{Area, read}
+use Rattle.std.proofs.lemmas.Bool.{cases_eq, cases_order}
+use Rattle.area.specs.Area.{read}
 use Rattle.std.proofs.lemmas.Slice.{drop-put_mid}
 use Rattle.areas.specs.Plan.{parts, areas_in, area_at, rest_of, plan}
 

@@ -1,28 +1,20 @@
 -- How a search goes over the areas, one by one. Assumes nothing.
-use Rattle.std.proofs.Common.{◌≡◌, ℕ, zero, suc, ◌+◌, ◌<◌, ◌≤◌, Bool, true, false, cond, not, eqb, ◌⊎◌, List, [], ◌∷◌, ◌++◌, length, get_or, take, drop, is_some, Some, None, Option, sym, refl, ap, ◌∙◌, subst, inl, inr, arith}
+use Rattle.std.proofs.Common.{◌≡◌, ℕ, ◌+◌, ◌<◌, ◌≤◌, true, false, not, eqb, ◌⊎◌, List, [], ◌∷◌, length, get_or, drop, is_some, Some, None, Option, sym, refl, ap, ◌∙◌, inl, inr}
 use Rattle.std.proofs.lemmas.List.{drop_more, drop_all}
-use Rattle.std.proofs.lemmas.Bool.{cond-true, cond-false, eqb-true, true≢false, false≢true}
-use Rattle.std.specs.Option.{option_map}
+use Rattle.std.proofs.lemmas.Bool.{cond-true, cond-false, eqb-true, eq-eqb, ne_eqb, cases_eq, true≢false, false≢true}
+use Rattle.std.specs.Option.{option_map, option_eq}
 use Rattle.area.specs.Area.{Area}
 use Rattle.areas.specs.Plan.{owned_by, areas_of, First, spared}
 
-pub owned_by_lem : (s : ℕ) (o : Option Area) (t : ℕ) → option_map (λ a. a.section) o ≡ Some t → owned_by s o ≡ eqb s t
+-- whether an area is of a section, by comparing the section that it reads as
+eqb_sym : (m n : ℕ) → (m ≡ n) ⊎ (m ≡ n → ⊥) → eqb m n ≡ eqb n m
+eqb_sym m n (inl e) = eq-eqb _ _ e ∙ sym (eq-eqb _ _ (sym e))
+eqb_sym m n (inr e) = ne_eqb _ _ e ∙ sym (ne_eqb _ _ (λ f. e (sym f)))
+
+pub owned_is : (s : ℕ) (o : Option Area) → option_eq eqb (option_map (λ a. a.section) o) (Some s) ≡ owned_by s o
 unfolding owned_by
-owned_by_lem s None t e = let z : ◌≡◌ {A = ℕ} 0 1 = cc in absurd (omega arith)
-owned_by_lem s (Some a) t e = let z : a.section ≡ t = cc in ap (eqb s) z
-
-pub owned_none : (s : ℕ) (o : Option Area) → option_map (λ a. a.section) o ≡ None → owned_by s o ≡ false
-unfolding owned_by
-owned_none s None e = refl
-owned_none s (Some a) e = let z : ◌≡◌ {A = ℕ} 0 1 = cc in absurd (omega arith)
-
-pub used_some : (o : Option Area) (t : ℕ) → option_map (λ a. a.section) o ≡ Some t → is_some o ≡ true
-used_some None t e = let z : ◌≡◌ {A = ℕ} 0 1 = cc in absurd (omega arith)
-used_some (Some a) t e = refl
-
-pub used_none : (o : Option Area) → option_map (λ a. a.section) o ≡ None → is_some o ≡ false
-used_none None e = refl
-used_none (Some a) e = let z : ◌≡◌ {A = ℕ} 0 1 = cc in absurd (omega arith)
+owned_is s None = refl
+owned_is s (Some a) = eqb_sym a.section s (cases_eq a.section s)
 
 -- an area of another section is passed over
 of_pass : (s : ℕ) (o : Option Area) (os : List (Option Area)) → owned_by s o ≡ false → areas_of s (o ∷ os) ≡ areas_of s os
