@@ -20,31 +20,31 @@ spent_none (Some k) = let z : k ≡ k - 0 = omega arith in ap Some z
 
 -- one part and then another
 
-lasts_both : (p : Option ℕ) (m n t : ℕ) → t ≡ m + n → lasts m p ≡ true → lasts n (spent m p) ≡ true → lasts t p ≡ true
+pub lasts_both : (p : Option ℕ) (m n t : ℕ) → t ≡ m + n → lasts m p ≡ true → lasts n (spent m p) ≡ true → lasts t p ≡ true
 lasts_both None m n t e a b = refl
 lasts_both (Some k) m n t e a b = le-leb t k (omega (arith, leb-true m k a, leb-true n (k - m) b))
 
-spent_both : (p : Option ℕ) (m n t : ℕ) → t ≡ m + n → spent n (spent m p) ≡ spent t p
+pub spent_both : (p : Option ℕ) (m n t : ℕ) → t ≡ m + n → spent n (spent m p) ≡ spent t p
 spent_both None m n t e = refl
 spent_both (Some k) m n t e = let z : k - m - n ≡ k - t = omega arith in ap Some z
 
 -- where it does not last the first part
 
-lasts-first : (p : Option ℕ) (m t : ℕ) → m ≤ t → lasts m p ≡ false → lasts t p ≡ false
+pub lasts-first : (p : Option ℕ) (m t : ℕ) → m ≤ t → lasts m p ≡ false → lasts t p ≡ false
 lasts-first None m t e a = a
 lasts-first (Some k) m t e a = lt-leb t k (omega (arith, leb-false m k a))
 
-spent-first : (p : Option ℕ) (m t : ℕ) → m ≤ t → lasts m p ≡ false → spent m p ≡ spent t p
+pub spent-first : (p : Option ℕ) (m t : ℕ) → m ≤ t → lasts m p ≡ false → spent m p ≡ spent t p
 spent-first None m t e a = refl
 spent-first (Some k) m t e a = let z : k - m ≡ k - t = omega (arith, leb-false m k a) in ap Some z
 
 -- where it does not last the second
 
-lasts-second : (p : Option ℕ) (m n t : ℕ) → m + n ≤ t → lasts m p ≡ true → lasts n (spent m p) ≡ false → lasts t p ≡ false
+pub lasts-second : (p : Option ℕ) (m n t : ℕ) → m + n ≤ t → lasts m p ≡ true → lasts n (spent m p) ≡ false → lasts t p ≡ false
 lasts-second None m n t e a b = b
 lasts-second (Some k) m n t e a b = lt-leb t k (omega (arith, leb-true m k a, leb-false n (k - m) b))
 
-spent-second : (p : Option ℕ) (m n t : ℕ) → m + n ≤ t → lasts n (spent m p) ≡ false → spent n (spent m p) ≡ spent t p
+pub spent-second : (p : Option ℕ) (m n t : ℕ) → m + n ≤ t → lasts n (spent m p) ≡ false → spent n (spent m p) ≡ spent t p
 spent-second None m n t e b = refl
 spent-second (Some k) m n t e b = let z : k - m - n ≡ k - t = omega (arith, leb-false n (k - m) b) in ap Some z
 

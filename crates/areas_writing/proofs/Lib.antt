@@ -1,0 +1,3 @@
+pub mod Adds
+pub mod Clears
+pub mod Written
