@@ -1,5 +1,5 @@
 //! The records of an area, one after the other.
-ghost use Rattle.std.specs.Prelude.{◌≡◌, true, false, MatchOption, slice_index};
+ghost use Rattle.std.specs.Prelude.{◌≡◌, ◌≤◌, true, false, length, MatchOption, slice_index};
 ghost use Rattle.std.specs.Iterator.{YieldsFirstRef, item_count};
 ghost use Rattle.area.specs.Area.{body, holds, records_of, size};
 ghost use Rattle.area.specs.Records.{left};
@@ -56,9 +56,10 @@ pub struct Records<'a> {
 
 impl<'a> Records<'a> {
     /// The records of the area, up to the end mark, or to something that is neither a record nor the end.
-    #[tactic(auto, using(crate::proofs::Steps::past_end), unfolding(crate::specs::Area::records_of))]
+    #[tactic(auto, using(crate::proofs::Steps::past_end, crate::proofs::Steps::count_at), unfolding(crate::specs::Area::records_of))]
     pub fn new(area: &'a [u8]) -> Self
-        ensures { left result ≡ records_of area.now }
+        ensures value { left result ≡ records_of area.now }
+        ensures within { length (left result) ≤ length area.now }
     {
         let at = if byte(area, 0) == MARK {
             HEAD

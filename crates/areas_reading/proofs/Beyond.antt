@@ -1,5 +1,5 @@
 -- Where an overrun is found. Assumes nothing.
-use Rattle.std.proofs.Common.{◌≡◌, ℕ, zero, suc, ◌+◌, ◌<◌, ◌≤◌, Bool, true, false, cond, List, [], ◌∷◌, ◌++◌, length, get_or, take, drop, is_some, Some, None, Option, sym, refl, ap, ◌∙◌, subst, arith}
+use Rattle.std.proofs.Common.{◌≡◌, ℕ, ◌+◌, ◌<◌, ◌≤◌, List, [], ◌∷◌, length, get_or, drop, Some, None, Option, sym, refl, ap, ◌∙◌, arith}
 use Rattle.std.proofs.lemmas.List.{drop_more, drop_all}
 use Rattle.std.specs.Option.{option_map}
 use Rattle.area.specs.Area.{Area as Held, read, area_of, defect_of}
@@ -7,9 +7,8 @@ use Rattle.journal.specs.declared.places.Defect.{Defect}
 use Rattle.area.proofs.Marks.{read_is}
 use Rattle.journal.specs.declared.places.Defect.{Defect}
 use Rattle.journal.specs.declared.places.Defect.TheVariants.{Area as SecondArea}
-use Rattle.journal.specs.declared.places.Overrun.{Overrun}
 use Rattle.areas.specs.Plan.{areas_of}
-use Rattle.areas_reading.specs.Overruns.{defect, overrun_at, behind, overrun_of, overrun_by, earlier, overrun_in}
+use Rattle.areas_reading.specs.Overruns.{overrun_at, behind, overrun_of, overrun_by, earlier, overrun_in}
 
 pub defect_is : (bs : List ℕ) (a : Held) → read bs ≡ Some a → a.defect ≡ defect_of bs
 unfolding area_of
@@ -19,10 +18,10 @@ pub of_none : (s : ℕ) (xs : List Held) → xs ≡ [] → None ≡ overrun_of s
 unfolding overrun_of
 of_none s xs e = sym (ap (overrun_of s) e)
 
-pub of_fault : (s n : ℕ) (d : Defect) (f : Defect) (a : Held) (xs rest : List Held) → xs ≡ a ∷ rest → n ≡ length a.records → a.defect ≡ Some f → d ≡ defect f → Some (overrun_at s n d) ≡ overrun_of s xs
+pub of_defect : (s n : ℕ) (d : Defect) (a : Held) (xs rest : List Held) → xs ≡ a ∷ rest → n ≡ length a.records → a.defect ≡ Some d → Some (overrun_at s n d) ≡ overrun_of s xs
 unfolding overrun_of behind
-of_fault s n d f a xs rest e l g h =
-    ap (λ x. Some (overrun_at s n x)) h ∙ ap (λ m. Some (overrun_at s m (defect f))) l ∙ sym (ap (overrun_of s) e ∙ ap (λ o. behind s (length a.records) o rest) g)
+of_defect s n d a xs rest e l g =
+    ap (λ m. Some (overrun_at s m d)) l ∙ sym (ap (overrun_of s) e ∙ ap (λ o. behind s (length a.records) o rest) g)
 
 pub of_sole : (s : ℕ) (a : Held) (xs rest : List Held) → xs ≡ a ∷ rest → a.defect ≡ None → rest ≡ [] → None ≡ overrun_of s xs
 unfolding overrun_of behind

@@ -1,11 +1,12 @@
 -- The area with the lowest section, found from the last to the first. Assumes nothing.
-use Rattle.std.proofs.Common.{◌≡◌, ℕ, zero, suc, ◌+◌, ◌<◌, ◌≤◌, Bool, true, false, cond, not, ◌&&◌, eqb, leb, ◌⊎◌, List, [], ◌∷◌, ◌++◌, length, get_or, take, drop, is_some, Some, None, Option, sym, refl, ap, ◌∙◌, subst, inl, inr, arith}
+use Rattle.std.proofs.Common.{◌≡◌, ℕ, ◌+◌, ◌<◌, ◌≤◌, Bool, true, false, cond, ◌&&◌, leb, ◌⊎◌, List, ◌∷◌, length, get_or, drop, Some, None, Option, sym, refl, ap, ◌∙◌, subst, inl, inr, arith}
 use Rattle.std.proofs.lemmas.List.{drop_more, drop_all}
-use Rattle.std.proofs.lemmas.Bool.{cond-true, cond-false, true≢false, false≢true, and_left, and_right, and_from, cases_Bool}
+use Rattle.std.proofs.lemmas.Bool.{cond-true, cond-false, cases_Bool}
+use Rattle.std.specs.Bool.{then_some}
 use Rattle.std.specs.Option.{option_map}
 use Rattle.area.specs.Area.{Area, read, records_of}
 use Rattle.areas_reading.specs.declared.low.Low.{Low}
-use Rattle.areas.specs.Plan.{some, above, candidate, lower, lowest, area_at, plan}
+use Rattle.areas.specs.Plan.{some, above, candidate, lower, lowest}
 use Rattle.areas_reading.specs.Next.{nearer, Points}
 use Rattle.areas_reading.proofs.Shows.{records_is}
 
@@ -23,6 +24,14 @@ candidate_by low bs (Some a) s e h =
 
 pub candidate_used : (low : Option ℕ) (bs : List ℕ) (s : ℕ) → option_map (λ a. a.section) (read bs) ≡ Some s → candidate low (read bs) ≡ cond (above low s && some (records_of bs)) (Some s) None
 candidate_used low bs s h = candidate_by low bs (read bs) s refl h
+
+chosen : (b : Bool) (s : ℕ) → then_some b s ≡ cond b (Some s) None
+chosen true s = refl
+chosen false s = refl
+
+pub candidate-above : (low : Option ℕ) (bs : List ℕ) (s : ℕ) → option_map (λ a. a.section) (read bs) ≡ Some s → above low s ≡ true → then_some (some (records_of bs)) s ≡ candidate low (read bs)
+candidate-above low bs s h a =
+    chosen (some (records_of bs)) s ∙ ap (λ b. cond (b && some (records_of bs)) (Some s) None) (sym a) ∙ sym (candidate_used low bs s h)
 
 -- one area more in front
 

@@ -1,7 +1,7 @@
 -- Which area shows the records of a section. Assumes nothing.
-use Rattle.std.proofs.Common.{◌≡◌, ℕ, zero, suc, ◌+◌, ◌/◌, ◌<◌, ◌≤◌, Bool, true, false, cond, not, ◌&&◌, eqb, leb, ◌⊎◌, List, [], ◌∷◌, ◌++◌, map, length, get_or, take, drop, is_some, Some, None, Option, sym, refl, ap, ◌∙◌, subst, inl, inr, arith}
+use Rattle.std.proofs.Common.{◌≡◌, ℕ, zero, suc, ◌+◌, ◌/◌, ◌<◌, ◌≤◌, true, false, cond, ◌&&◌, eqb, ◌⊎◌, List, [], ◌∷◌, map, length, get_or, take, drop, is_some, Some, None, Option, sym, refl, ap, ◌∙◌, inl, inr, arith}
 use Rattle.std.proofs.lemmas.List.{drop_more, drop_all, length-take}
-use Rattle.std.proofs.lemmas.Bool.{cond-true, cond-false, eqb-true, true≢false, false≢true, and_parts, and_cases, and_left, cases_Bool}
+use Rattle.std.proofs.lemmas.Bool.{cond-true, cond-false, true≢false, false≢true, and_parts, and_left, cases_Bool}
 use Rattle.std.specs.Option.{option_map}
 use Rattle.std.specs.List.{slice_get}
 use Rattle.area.specs.Area.{Area, read, area_of, records_of}

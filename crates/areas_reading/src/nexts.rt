@@ -52,10 +52,10 @@ fn candidate(area: &[u8], low: Option<u64>) -> Option<u64>
     ensures { result ≡ Candidate low (read area.now) }
 {
     let section = area::section(area)?;
-    if is_above(low, section) && has_record(area) {
-        return Some(section);
+    if !is_above(low, section) {
+        return None;
     }
-    None
+    has_record(area).then_some(section)
 }
 
 // Of two finds the one with the lower section, and of equals the first.
@@ -129,6 +129,9 @@ pub fn next(medium: &[u8], after: Option<Place>) -> Option<Record<'_>>
 {
     match after {
         None => first_above(medium, None),
-        Some(place) => record_past(medium, place).or_else(|| first_above(medium, Some(place.section))),
+        Some(place) => record_past(medium, place).or_else(|| first_above(
+            medium,
+            Some(place.section),
+        )),
     }
 }

@@ -1,10 +1,19 @@
 //! Where reading a medium comes to something that is no record and no end.
 ghost use Rattle.std.specs.Prelude.{◌≡◌, ◌<◌, length, None, slice_index_or};
+ghost use Rattle.area.specs.Area.{records_of};
 ghost use Rattle.areas.specs.Plan.{plan, areas_of};
 ghost use Rattle.areas_reading.specs.Overruns.{overrun_of, overrun_by, earlier as Earlier, overrun as Overran};
 
+use area::Records;
 use areas::{count, find, part};
 use journal::{Defect, Overrun, Place};
+
+// How many records an area has.
+fn count_records(area: &[u8]) -> u64
+    ensures { result ≡ length (records_of area.now) }
+{
+    Records::new(area).count() as u64
+}
 
 // The overrun of a section: behind the records of its first area, or its second area.
 fn overrun_of(medium: &[u8], section: u64) -> Option<Overrun>
@@ -12,7 +21,7 @@ fn overrun_of(medium: &[u8], section: u64) -> Option<Overrun>
 {
     let i = find(medium, section, 0)?;
     let area = part(medium, i);
-    let number = area::walk(area).count;
+    let number = count_records(area);
     let place = Place { section, number };
     if let Some(what) = area::defect(area) {
         return Some(Overrun { place, what });
@@ -29,7 +38,11 @@ fn earlier(a: Option<Overrun>, b: Option<Overrun>) -> Option<Overrun>
     ensures { result ≡ Earlier a b }
 {
     match (a, b) {
-        (Some(x), Some(y)) => Some(if x.place.section <= y.place.section { x } else { y }),
+        (Some(x), Some(y)) => Some(if x.place.section <= y.place.section {
+            x
+        } else {
+            y
+        }),
         (x, None) => x,
         (None, y) => y,
     }

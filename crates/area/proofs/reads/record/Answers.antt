@@ -4,4 +4,4 @@ use Rattle.area.proofs.reads.record.Goals as goal
 
 pub returns : goal.returns
 returns c =
-    nth_from_yields_List c.nth.result c.nth.new.self c.args.number c.nth.ensures.ran (YieldsList-from_first (λ x. x.now) left _ c.new.ensures)
+    nth_from_yields_List c.nth.result c.nth.new.self c.args.number c.nth.ensures.ran (YieldsList-from_first (λ x. x.now) left _ c.new.ensures.value)
