@@ -169,31 +169,31 @@ module _ (bs new : List ℕ) (r : Room bs (length new)) where
 pub appended_from : (bs new cs : List ℕ) (p q : Option ℕ) (e : ℕ) (r : Result (Unit {0}) Stop) → fits (length bs) (area_of bs) (length new) ≡ true → e ≡ end_of bs → Stored (length new + 4) (e + 1) bs (added e new bs) p r cs q → Appended bs p new r cs q
 appended_from bs new cs p q e (Ok x) f z w =
     let m = from-room bs (length new) f in
-    let g : cs ≡ added (end_of bs) new bs = w.2 ∙ ap (λ k. added k new bs) z in
-    (f, w.0, w.1, g, ap read g ∙ added-read bs new m)
+    let g : cs ≡ added (end_of bs) new bs = w.1 ∙ ap (λ k. added k new bs) z in
+    (f, w.0, g, ap read g ∙ added-read bs new m)
 appended_from bs new cs p q e (Err Full) f z w = absurd w
 appended_from bs new cs p q e (Err Pruned) f z w = w
 appended_from bs new cs p q e (Err Off) f z w =
     let m = from-room bs (length new) f in
-    let k : Kept (end_of bs + 1) bs cs = subst (λ (k : ℕ). Kept (k + 1) bs cs) z w.2 in
-    (f, w.0, w.1, k, kept_read bs cs m.used m.ended k)
+    let k : Kept (end_of bs + 1) bs cs = subst (λ (k : ℕ). Kept (k + 1) bs cs) z w.1 in
+    (f, w.0, k, kept_read bs cs m.used m.ended k)
 
 pub started_from : (bs cs : List ℕ) (p q : Option ℕ) (s : ℕ) (r : Result (Unit {0}) Stop) → get_or bs 0 0 ≡ 0 → 9 < length bs → s < 18446744073709551616 → Stored 10 1 bs (begun s bs) p r cs q → Started bs p s r cs q
 started_from bs cs p q s (Ok x) m h f w =
     let v = and_from (eqb (get_or bs 0 0) 0) (leb 10 (length bs)) (eq-eqb _ _ m) (le-leb _ _ (omega arith)) in
-    (v, w.0, w.1, w.2, ap read w.2 ∙ begun-read bs s h f)
+    (v, w.0, w.1, ap read w.1 ∙ begun-read bs s h f)
 started_from bs cs p q s (Err Full) m h f w = absurd w
 started_from bs cs p q s (Err Pruned) m h f w = w
 started_from bs cs p q s (Err Off) m h f w =
     let v = and_from (eqb (get_or bs 0 0) 0) (leb 10 (length bs)) (eq-eqb _ _ m) (le-leb _ _ (omega arith)) in
-    (v, w.0, w.1, w.2, free-read bs cs m w.2)
+    (v, w.0, w.1, free-read bs cs m w.1)
 
 pub freed_from : (bs cs : List ℕ) (p q : Option ℕ) (r : Result (Unit {0}) Stop) → 0 < length bs → Stored 1 (length bs) bs (set bs 0 0) p r cs q → Freed bs p r cs q
 freed_from bs cs p q (Ok x) h w =
     let l : min 1 (length bs) ≡ 1 = omega arith in
-    simp l (w.0, w.1, w.2, ap read w.2 ∙ freed-read bs h)
+    simp l (w.0, w.1, ap read w.1 ∙ freed-read bs h)
 freed_from bs cs p q (Err Full) h w = w
 freed_from bs cs p q (Err Pruned) h w = w
 freed_from bs cs p q (Err Off) h w =
     let l : min 1 (length bs) ≡ 1 = omega arith in
-    simp l (w.0, w.1, ext_get_or 0 cs bs w.2.len (λ i u. w.2.same i (omega (arith, w.2.len))))
+    simp l (w.0, ext_get_or 0 cs bs w.1.len (λ i u. w.1.same i (omega (arith, w.1.len))))

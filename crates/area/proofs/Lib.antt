@@ -4,4 +4,4 @@ pub mod Puts
 pub mod Onward
 pub mod Room
 pub mod Heads
-pub mod Power
+pub mod Stores

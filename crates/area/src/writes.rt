@@ -6,15 +6,14 @@ ghost use Rattle.area.specs.Writes.{Appended, Freed, Started, Stored};
 use crate::reads::room;
 use crate::records::{HEAD, MARK, NO_MARK};
 use journal::Stop;
+use power::spend;
 
 // Stores one byte, if there is power for it: the only writer.
 fn store(area: &mut [u8], power: &mut Option<u64>, at: usize, byte: u8) -> Result<(), Stop>
     requires { at < length area.old }
     ensures { Stored 1 (length area.old) area.old (slice_set area.old at byte) power.old result area.new power.new }
 {
-    if let Some(stores) = *power {
-        *power = Some(stores.checked_sub(1).ok_or(Stop::Off)?);
-    }
+    spend(power)?;
     area[at] = byte;
     Ok(())
 }

@@ -5,10 +5,10 @@ use Rattle.std.proofs.lemmas.Bool.{and_parts, and_from, and_left, and_right, not
 use Rattle.journal.specs.declared.stops.Stop.{Stop}
 use Rattle.journal.specs.declared.stops.Stop.TheVariants.{Full, Pruned, Off}
 use Rattle.area.specs.Area.{Area, read, area_of, fits, started, pushed, extent}
-use Rattle.area.specs.Power.{lasts, spent}
+use Rattle.power.specs.Power.{Took}
 use Rattle.area.specs.Writes.{Appended, Started, room_in as Holds, vacant}
 use Rattle.area.proofs.Marks.{read_is, free_mark}
-use Rattle.area.proofs.Power.{lasts_both, spent_both, lasts-first, spent-first, lasts-second, spent-second}
+use Rattle.power.proofs.Power.{took_both, took-first, took-second}
 use Rattle.areas.specs.Plan.{area_at, plan, areas_of, First, spared, room_in, room}
 use Rattle.areas_writing.specs.Steps.{Swapped, cost_in, cost, takes, Adding}
 use Rattle.areas.proofs.Parts.{get_d_plan, length-area}
@@ -94,17 +94,20 @@ module _ (bs cs : List ℕ) (p q : Option ℕ) (s i : ℕ) (b : List ℕ) (f : F
       let g : fits 4096 f.area (length b) ≡ true = sym fitting ∙ h in
       takes_sole (plan bs) s (length b) f.area sole ∙ and_from (leb (length b) 1068) (fits 4096 f.area (length b)) (fits-short 4096 (length b) f.area g) g
 
+  costs : length b + 4 ≡ cost (plan bs) s (length b)
+  costs = cost_sole (plan bs) s (length b) f.area [] sole
+
   pub extended : (r : Result (Unit {0}) Stop) → Appended (area_at i bs) p b r (area_at i cs) q → (area_at i cs ≡ area_at i bs → cs ≡ bs) → Adding bs p s b r cs q
   extended (Ok x) w back =
       let g : fits 4096 f.area (length b) ≡ true = sym fitting ∙ w.0 in
-      let new : read (area_at i cs) ≡ Some (pushed f.area b) = w.4 ∙ ap (λ a. Some (pushed a b)) (read_is (area_at i bs) f.area reads) in
-      (taken w.0, inl (f.area, f.section, sole, fits-sound 4096 (length b) f.area g, swapped i (Some f.area) (Some (pushed f.area b)) (plan bs) (plan cs) f.within f.here (others ∙ ap (set (plan bs) i) new)), subst (λ k. lasts k p ≡ true) (cost_sole (plan bs) s (length b) f.area [] sole) w.1, w.2 ∙ ap (λ k. spent k p) (cost_sole (plan bs) s (length b) f.area [] sole))
+      let new : read (area_at i cs) ≡ Some (pushed f.area b) = w.3 ∙ ap (λ a. Some (pushed a b)) (read_is (area_at i bs) f.area reads) in
+      (taken w.0, inl (f.area, f.section, sole, fits-sound 4096 (length b) f.area g, swapped i (Some f.area) (Some (pushed f.area b)) (plan bs) (plan cs) f.within f.here (others ∙ ap (set (plan bs) i) new)), subst (λ k. Took k true p q) costs w.1)
   extended (Err Full) w back =
       (takes_sole (plan bs) s (length b) f.area sole ∙ and_right (leb (length b) 1068) _ (sym fitting ∙ w.0), back w.2, w.1)
   extended (Err Pruned) w back = w
   extended (Err Off) w back =
-      let same : plan cs ≡ plan bs = others ∙ ap (set (plan bs) i) (w.4 ∙ sym (get_d_plan bs i f.within)) ∙ set-get_or (plan bs) i None in
-      (taken w.0, inl same, subst (λ k. lasts k p ≡ false) (cost_sole (plan bs) s (length b) f.area [] sole) w.1, w.2 ∙ ap (λ k. spent k p) (cost_sole (plan bs) s (length b) f.area [] sole))
+      let same : plan cs ≡ plan bs = others ∙ ap (set (plan bs) i) (w.3 ∙ sym (get_d_plan bs i f.within)) ∙ set-get_or (plan bs) i None in
+      (taken w.0, inl same, subst (λ k. Took k false p q) costs w.1)
 
 -- a fresh area has room for any record
 fresh_fits : (s n : ℕ) → n ≤ 1068 → fits 4096 (started s) n ≡ true
@@ -127,28 +130,21 @@ module _ (bs : List ℕ) (p : Option ℕ) (s i : ℕ) (b : List ℕ) (none : are
   unbegun ms m Full others w = absurd (false≢true (sym w.0 ∙ free-vacant bs i within free))
   unbegun ms m Pruned others w = w
   unbegun ms m Off others w =
-      let same : plan ms ≡ plan bs = others ∙ ap (set (plan bs) i) (w.4 ∙ sym free) ∙ set-get_or (plan bs) i None in
-      let t = cost (plan bs) s (length b) in
-      let l : 10 ≤ t = omega (arith, cost-free (plan bs) s (length b) none) in
-      (begun-takes, inl same, lasts-first p 10 t l w.1, w.2 ∙ spent-first p 10 t l w.1)
+      let same : plan ms ≡ plan bs = others ∙ ap (set (plan bs) i) (w.3 ∙ sym free) ∙ set-get_or (plan bs) i None in
+      (begun-takes, inl same, took-first 10 (cost (plan bs) s (length b)) p m (omega (arith, cost-free (plan bs) s (length b) none)) w.1)
 
   -- the area is in use
   pub begun : (ms cs : List ℕ) (m q : Option ℕ) (r : Result (Unit {0}) Stop) → plan ms ≡ set (plan bs) i (read (area_at i ms)) → Started (area_at i bs) p s (Ok tt) (area_at i ms) m → plan cs ≡ set (plan ms) i (read (area_at i cs)) → Appended (area_at i ms) m b r (area_at i cs) q → Adding bs p s b r cs q
   begun ms cs m q (Ok x) o w others v =
-      let new : read (area_at i cs) ≡ Some (pushed (started s) b) = v.4 ∙ ap (λ a. Some (pushed a b)) (read_is (area_at i ms) (started s) w.4) in
+      let new : read (area_at i cs) ≡ Some (pushed (started s) b) = v.3 ∙ ap (λ a. Some (pushed a b)) (read_is (area_at i ms) (started s) w.3) in
       let all : plan cs ≡ set (plan bs) i (Some (pushed (started s) b)) = others ∙ ap (set (plan ms) i) new ∙ ap (λ os. set os i (Some (pushed (started s) b))) o ∙ set-set (plan bs) i _ _ in
-      let c = sym (cost-free (plan bs) s (length b) none) in
-      let l : lasts (length b + 4) (spent 10 p) ≡ true = subst (λ (o : Option ℕ). lasts (length b + 4) o ≡ true) w.2 v.1 in
-      (begun-takes, inr (none, swapped i None (Some (pushed (started s) b)) (plan bs) (plan cs) within free all), lasts_both p 10 (length b + 4) _ c w.1 l, v.2 ∙ ap (spent (length b + 4)) w.2 ∙ spent_both p 10 (length b + 4) _ c)
+      (begun-takes, inr (none, swapped i None (Some (pushed (started s) b)) (plan bs) (plan cs) within free all), took_both 10 (length b + 4) _ p m q (sym (cost-free (plan bs) s (length b) none)) w.1 v.1)
   begun ms cs m q (Err Full) o w others v =
       let l : length (plan ms) ≡ length (plan bs) = ap length o ∙ length-set (plan bs) i _ in
       let g : i < length (plan ms) = omega arith in
-      absurd (false≢true (sym v.0 ∙ holds_is ms i (length b) (started s) g w.4 ∙ fresh_fits s (length b) short))
+      absurd (false≢true (sym v.0 ∙ holds_is ms i (length b) (started s) g w.3 ∙ fresh_fits s (length b) short))
   begun ms cs m q (Err Pruned) o w others v = v
   begun ms cs m q (Err Off) o w others v =
-      let new : read (area_at i cs) ≡ Some (started s) = v.4 ∙ w.4 in
+      let new : read (area_at i cs) ≡ Some (started s) = v.3 ∙ w.3 in
       let all : plan cs ≡ set (plan bs) i (Some (started s)) = others ∙ ap (set (plan ms) i) new ∙ ap (λ os. set os i (Some (started s))) o ∙ set-set (plan bs) i _ _ in
-      let t = cost (plan bs) s (length b) in
-      let c : 10 + (length b + 4) ≤ t = omega (arith, cost-free (plan bs) s (length b) none) in
-      let l : lasts (length b + 4) (spent 10 p) ≡ false = subst (λ (o : Option ℕ). lasts (length b + 4) o ≡ false) w.2 v.1 in
-      (begun-takes, inr (none, swapped i None (Some (started s)) (plan bs) (plan cs) within free all), lasts-second p 10 (length b + 4) t c w.1 l, v.2 ∙ ap (spent (length b + 4)) w.2 ∙ spent-second p 10 (length b + 4) t c l)
+      (begun-takes, inr (none, swapped i None (Some (started s)) (plan bs) (plan cs) within free all), took-second 10 (length b + 4) (cost (plan bs) s (length b)) p m q (omega (arith, cost-free (plan bs) s (length b) none)) w.1 v.1)

@@ -6,9 +6,9 @@ use Rattle.std.specs.Option.{option_map}
 use Rattle.journal.specs.declared.stops.Stop.{Stop}
 use Rattle.journal.specs.declared.stops.Stop.TheVariants.{Full, Pruned, Off}
 use Rattle.area.specs.Area.{Area, read}
-use Rattle.area.specs.Power.{lasts, spent}
+use Rattle.power.specs.Power.{Took}
 use Rattle.area.specs.Writes.{Freed}
-use Rattle.area.proofs.Power.{lasts_both, spent_both, lasts-second, spent-second, lasts_none, spent_none}
+use Rattle.power.proofs.Power.{took_none, took_both, took-second}
 use Rattle.areas.specs.Plan.{area_at, plan}
 use Rattle.areas_writing.specs.Steps.{under, cleared, cleared_from, stores_for, unders, ClearingAt, Clearing}
 use Rattle.areas.proofs.Parts.{get_d_plan, length-area}
@@ -32,19 +32,19 @@ pub clear_under : (bs cs : List ℕ) (p q : Option ℕ) (i s : ℕ) (r : Result 
 unfolding cleared
 clear_under bs cs p q i s (Ok x) h u w o =
     let n = one_byte bs i s h u in
-    (o ∙ ap (set (plan bs) i) (w.3 ∙ sym (cond-true _ None (get_or (plan bs) i None) u)), subst (λ k. lasts k p ≡ true) n w.0, w.1 ∙ ap (λ k. spent k p) n)
+    (o ∙ ap (set (plan bs) i) (w.2 ∙ sym (cond-true _ None (get_or (plan bs) i None) u)), subst (λ k. Took k true p q) n w.0)
 clear_under bs cs p q i s (Err Full) h u w o = w
 clear_under bs cs p q i s (Err Pruned) h u w o = w
 clear_under bs cs p q i s (Err Off) h u w o =
     let n = one_byte bs i s h u in
-    (o ∙ ap (λ a. set (plan bs) i (read a)) w.2 ∙ ap (set (plan bs) i) (sym (get_d_plan bs i h)) ∙ set-get_or (plan bs) i None, subst (λ k. lasts k p ≡ false) n w.0, w.1 ∙ ap (λ k. spent k p) n)
+    (o ∙ ap (λ a. set (plan bs) i (read a)) w.1 ∙ ap (set (plan bs) i) (sym (get_d_plan bs i h)) ∙ set-get_or (plan bs) i None, subst (λ k. Took k false p q) n w.0)
 
 -- another
 pub clear_other : (bs : List ℕ) (p : Option ℕ) (i s : ℕ) → under s (get_or (plan bs) i None) ≡ false → ClearingAt bs p i s (Ok tt) bs p
 unfolding cleared stores_for
 clear_other bs p i s u =
     let n : 0 ≡ stores_for s (get_or (plan bs) i None) = sym (cond-false _ 1 0 u) in
-    (sym (ap (set (plan bs) i) (cond-false _ None (get_or (plan bs) i None) u) ∙ set-get_or (plan bs) i None), subst (λ k. lasts k p ≡ true) n (lasts_none p), spent_none p ∙ ap (λ k. spent k p) n)
+    (sym (ap (set (plan bs) i) (cond-false _ None (get_or (plan bs) i None) u) ∙ set-get_or (plan bs) i None), subst (λ k. Took k true p p) n (took_none p))
 
 -- from the last to the first
 pub clear_start : (n s : ℕ) (os : List (Option Area)) → length os ≤ n → os ≡ cleared_from n s os
@@ -83,7 +83,7 @@ unders-drop (suc i) s [] = omega arith
 unders-drop (suc i) s (o ∷ os) = omega (arith, unders-drop i s os)
 
 -- one turn
-module _ (os : List (Option Area)) (ms cs : List ℕ) (P p q : Option ℕ) (i j s : ℕ) (e : i + 1 ≡ j) (h : i < length os) (inv : plan ms ≡ cleared_from j s os) (lasted : lasts (unders s (drop j os)) P ≡ true) (left : p ≡ spent (unders s (drop j os)) P) where
+module _ (os : List (Option Area)) (ms cs : List ℕ) (P p q : Option ℕ) (i j s : ℕ) (e : i + 1 ≡ j) (h : i < length os) (inv : plan ms ≡ cleared_from j s os) (took : Took (unders s (drop j os)) true P p) where
   before : plan ms ≡ cleared_from (i + 1) s os
   before = inv ∙ ap (λ k. cleared_from k s os) (sym e)
 
@@ -93,11 +93,9 @@ module _ (os : List (Option Area)) (ms cs : List ℕ) (P p q : Option ℕ) (i j 
   more : unders s (drop i os) ≡ unders s (drop j os) + stores_for s (get_or (plan ms) i None)
   more = let f = ap (stores_for s) here in let g = ap (λ k. unders s (drop k os)) e in omega (arith, unders-more i s os h)
 
-  pub clear_again : (x : Unit {0}) → ClearingAt ms p i s (Ok x) cs q → (plan cs ≡ cleared_from i s os) × (lasts (unders s (drop i os)) P ≡ true) × (q ≡ spent (unders s (drop i os)) P)
+  pub clear_again : (x : Unit {0}) → ClearingAt ms p i s (Ok x) cs q → (plan cs ≡ cleared_from i s os) × Took (unders s (drop i os)) true P q
   clear_again x w =
-      let n = stores_for s (get_or (plan ms) i None) in
-      let l : lasts n (spent (unders s (drop j os)) P) ≡ true = subst (λ (o : Option ℕ). lasts n o ≡ true) left w.1 in
-      (w.0 ∙ ap (λ o. set (plan ms) i (cleared s o)) here ∙ ap (λ xs. set xs i (cleared s (get_or os i None))) before ∙ clear_more i s os h, lasts_both P (unders s (drop j os)) n _ more lasted l, w.2 ∙ ap (spent n) left ∙ spent_both P (unders s (drop j os)) n _ more)
+      (w.0 ∙ ap (λ o. set (plan ms) i (cleared s o)) here ∙ ap (λ xs. set xs i (cleared s (get_or os i None))) before ∙ clear_more i s os h, took_both (unders s (drop j os)) (stores_for s (get_or (plan ms) i None)) _ P p q more took w.1)
 
   pub clear_cut : (bs : List ℕ) (x : Stop) → os ≡ plan bs → ClearingAt ms p i s (Err x) cs q → Clearing bs P s (Err x) cs q
   clear_cut bs Full b w = w
@@ -105,9 +103,8 @@ module _ (os : List (Option Area)) (ms cs : List ℕ) (P p q : Option ℕ) (i j 
   clear_cut bs Off b w =
       let n = stores_for s (get_or (plan ms) i None) in
       let k : unders s (drop j os) + n ≤ unders s os = omega (arith, unders-drop i s os, more) in
-      let l : lasts n (spent (unders s (drop j os)) P) ≡ false = subst (λ (o : Option ℕ). lasts n o ≡ false) left w.1 in
-      let t : ((k : ℕ) × (plan cs ≡ cleared_from k s os)) × (lasts (unders s os) P ≡ false) × (q ≡ spent (unders s os) P) = ((i + 1, w.0 ∙ before), lasts-second P (unders s (drop j os)) n _ k lasted l, w.2 ∙ ap (spent n) left ∙ spent-second P (unders s (drop j os)) n _ k l) in
-      subst (λ (xs : List (Option Area)). ((k : ℕ) × (plan cs ≡ cleared_from k s xs)) × (lasts (unders s xs) P ≡ false) × (q ≡ spent (unders s xs) P)) b t
+      let t : ((k : ℕ) × (plan cs ≡ cleared_from k s os)) × Took (unders s os) false P q = ((i + 1, w.0 ∙ before), took-second (unders s (drop j os)) n _ P p q k took w.1) in
+      subst (λ (xs : List (Option Area)). ((k : ℕ) × (plan cs ≡ cleared_from k s xs)) × Took (unders s xs) false P q) b t
 
 pub length-cleared : (i s : ℕ) (os : List (Option Area)) → length (cleared_from i s os) ≡ length os
 unfolding cleared_from

@@ -1,7 +1,7 @@
 -- What the writers do to the areas of a medium. Assumes nothing.
 use Rattle.std.specs.Prelude.{◌≡◌, ℕ, ◌+◌, Bool, true, false, cond, ◌&&◌, ◌⊎◌, List, [], ◌∷◌, ◌++◌, map, length, take, drop, Some, None, Ok, Err, Option, Result, nat_le, nat_lt, slice_index_or, slice_set}
 use Rattle.area.specs.Area.{Area, started, pushed}
-use Rattle.area.specs.Power.{lasts, spent}
+use Rattle.power.specs.Power.{Took}
 use Rattle.journal.specs.declared.stops.Stop.{Stop}
 use Rattle.journal.specs.declared.stops.Stop.TheVariants.{Full, Pruned, Off}
 use Rattle.areas.specs.Plan.{areas_of, plan, room}
@@ -38,11 +38,11 @@ takes os s n = nat_le n 1068 && room os s n
 -- append: full exactly where the record is not taken, and then nothing changes; where the power goes there is no record more
 abbrev pub Adding : List ℕ → Option ℕ → ℕ → List ℕ → Result (Unit {0}) Stop → List ℕ → Option ℕ → Type 0
 Adding bs p s b (Ok _) cs q =
-    (takes (plan bs) s (length b) ≡ true) × Grown s b (plan bs) (plan cs) × (lasts (cost (plan bs) s (length b)) p ≡ true) × (q ≡ spent (cost (plan bs) s (length b)) p)
+    (takes (plan bs) s (length b) ≡ true) × Grown s b (plan bs) (plan cs) × Took (cost (plan bs) s (length b)) true p q
 Adding bs p s b (Err Full) cs q = (takes (plan bs) s (length b) ≡ false) × (cs ≡ bs) × (q ≡ p)
 Adding bs p s b (Err Pruned) cs q = ⊥
 Adding bs p s b (Err Off) cs q =
-    (takes (plan bs) s (length b) ≡ true) × Stayed s (plan bs) (plan cs) × (lasts (cost (plan bs) s (length b)) p ≡ false) × (q ≡ spent (cost (plan bs) s (length b)) p)
+    (takes (plan bs) s (length b) ≡ true) × Stayed s (plan bs) (plan cs) × Took (cost (plan bs) s (length b)) false p q
 
 -- whether an area is in use for a section below a bound
 unfoldable pub under : ℕ → Option Area → Bool
@@ -69,16 +69,16 @@ unders s (o ∷ os) = stores_for s o + unders s os
 -- the i-th area is freed if its section is below a bound, while the power lasts
 abbrev pub ClearingAt : List ℕ → Option ℕ → ℕ → ℕ → Result (Unit {0}) Stop → List ℕ → Option ℕ → Type 0
 ClearingAt bs p i s (Ok _) cs q =
-    (plan cs ≡ slice_set (plan bs) i (cleared s (slice_index_or (plan bs) i None))) × (lasts (stores_for s (slice_index_or (plan bs) i None)) p ≡ true) × (q ≡ spent (stores_for s (slice_index_or (plan bs) i None)) p)
+    (plan cs ≡ slice_set (plan bs) i (cleared s (slice_index_or (plan bs) i None))) × Took (stores_for s (slice_index_or (plan bs) i None)) true p q
 ClearingAt bs p i s (Err Full) cs q = ⊥
 ClearingAt bs p i s (Err Pruned) cs q = ⊥
 ClearingAt bs p i s (Err Off) cs q =
-    (plan cs ≡ plan bs) × (lasts (stores_for s (slice_index_or (plan bs) i None)) p ≡ false) × (q ≡ spent (stores_for s (slice_index_or (plan bs) i None)) p)
+    (plan cs ≡ plan bs) × Took (stores_for s (slice_index_or (plan bs) i None)) false p q
 
 -- prune: the areas of the sections below a bound are freed, from the last to the first, as far as the power lasts
 abbrev pub Clearing : List ℕ → Option ℕ → ℕ → Result (Unit {0}) Stop → List ℕ → Option ℕ → Type 0
-Clearing bs p s (Ok _) cs q = (plan cs ≡ map (cleared s) (plan bs)) × (lasts (unders s (plan bs)) p ≡ true) × (q ≡ spent (unders s (plan bs)) p)
+Clearing bs p s (Ok _) cs q = (plan cs ≡ map (cleared s) (plan bs)) × Took (unders s (plan bs)) true p q
 Clearing bs p s (Err Full) cs q = ⊥
 Clearing bs p s (Err Pruned) cs q = ⊥
 Clearing bs p s (Err Off) cs q =
-    ((i : ℕ) × (plan cs ≡ cleared_from i s (plan bs))) × (lasts (unders s (plan bs)) p ≡ false) × (q ≡ spent (unders s (plan bs)) p)
+    ((i : ℕ) × (plan cs ≡ cleared_from i s (plan bs))) × Took (unders s (plan bs)) false p q
