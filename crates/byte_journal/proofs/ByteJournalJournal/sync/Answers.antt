@@ -1,0 +1,11 @@
+use Rattle.std.proofs.Common.{refl}
+use Rattle.areas.specs.Plan.{plan}
+use Rattle.journal.proofs.Lost.{solid_synced}
+use Rattle.byte_journal.specs.Value.{log_of}
+use Rattle.byte_journal.proofs.Short.{solid}
+use Rattle.byte_journal.proofs.ByteJournalJournal.sync.Goals as goal
+
+pub returns-clause-step : goal.returns-clause-step
+returns-clause-step c =
+    let j = c.args.self.now in
+    (refl, refl, solid_synced c.args.section (log_of j.bound (plan j.bytes.now)) (solid (plan j.bytes.now)))

@@ -1,0 +1,11 @@
+pub mod Lookup
+pub mod Sieve
+pub mod Value
+pub mod Adding
+pub mod Grows
+pub mod Frees
+pub mod Steady
+pub mod Short
+pub mod Nexts
+pub mod Logs
+pub mod Steps

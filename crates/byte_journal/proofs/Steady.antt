@@ -1,0 +1,142 @@
+-- Writes make no overrun, and leave one that is there. Assumes nothing.
+use Rattle.std.proofs.Common.{◌≡◌, ℕ, ◌<◌, ◌≤◌, Bool, true, false, cond, leb, ◌⊎◌, List, [], ◌∷◌, ◌++◌, map, length, take, drop, Some, None, Option, sym, refl, ap, ◌∙◌, inl, inr, arith}
+use Rattle.std.proofs.lemmas.List.{take-append-drop}
+use Rattle.std.proofs.lemmas.Bool.{cases_eq, cases_lt}
+use Rattle.area.specs.Area.{Area, started, pushed}
+use Rattle.journal.specs.declared.places.Defect.{Defect}
+use Rattle.journal.specs.Log.{Bytes}
+use Rattle.journal.specs.declared.places.Overrun.{Overrun}
+use Rattle.areas.specs.Plan.{areas_of}
+use Rattle.areas_reading.specs.Overruns.{behind, overrun_of, overrun_by, earlier, overrun_in, overrun}
+use Rattle.areas_writing.specs.Steps.{Swapped, Grown, Stayed, cleared, cleared_from}
+use Rattle.byte_journal.proofs.Grows.{Grew, grew_more, grew_first, areas_append, own_not}
+use Rattle.byte_journal.proofs.Frees.{freed-above, freed-below}
+
+-- a section with one area that has no fault, or with none, has no overrun
+of_one : (s : ℕ) (a : Area) (xs : List Area) → xs ≡ a ∷ [] → a.defect ≡ None → overrun_of s xs ≡ None
+unfolding overrun_of behind
+of_one s a xs e f = ap (overrun_of s) e ∙ ap (λ o. behind s (length a.records) o []) f
+
+of_no : (s : ℕ) (xs : List Area) → xs ≡ [] → overrun_of s xs ≡ None
+unfolding overrun_of
+of_no s xs e = ap (overrun_of s) e
+
+-- the overruns of all sections settle the first one
+by_same : (os ns : List (Option Area)) → ((n : ℕ) → overrun_of n (areas_of n ns) ≡ overrun_of n (areas_of n os)) → (o : Option Area) → overrun_by ns o ≡ overrun_by os o
+unfolding overrun_by
+by_same os ns h None = refl
+by_same os ns h (Some a) = h a.section
+
+in_same : (os ns xs : List (Option Area)) → ((n : ℕ) → overrun_of n (areas_of n ns) ≡ overrun_of n (areas_of n os)) → overrun_in ns xs ≡ overrun_in os xs
+unfolding overrun_in
+in_same os ns [] h = refl
+in_same os ns (o ∷ xs) h = ap (λ e. earlier e (overrun_in ns xs)) (by_same os ns h o) ∙ ap (earlier (overrun_by os o)) (in_same os ns xs h)
+
+in_swap : (all before behind : List (Option Area)) (was new : Option Area) → overrun_by all new ≡ overrun_by all was → overrun_in all (before ++ new ∷ behind) ≡ overrun_in all (before ++ was ∷ behind)
+unfolding overrun_in
+in_swap all [] behind was new h = ap (λ e. earlier e (overrun_in all behind)) h
+in_swap all (o ∷ before) behind was new h = ap (earlier (overrun_by all o)) (in_swap all before behind was new h)
+
+swap_steady : (was new : Option Area) (os ns : List (Option Area)) → Swapped was new os ns → ((n : ℕ) → overrun_of n (areas_of n ns) ≡ overrun_of n (areas_of n os)) → overrun_by os new ≡ overrun_by os was → overrun ns ≡ overrun os
+unfolding overrun
+swap_steady was new os ns w h e =
+    in_same os ns ns h ∙ ap (overrun_in os) w.stands ∙ in_swap os w.before w.behind was new e ∙ sym (ap (overrun_in os) w.stood)
+
+grew_same : (s : ℕ) (b : Area) (os ns : List (Option Area)) → Grew s os ns b → b.defect ≡ None → overrun_of s (areas_of s os) ≡ None → (n : ℕ) → overrun_of n (areas_of n ns) ≡ overrun_of n (areas_of n os)
+grew_same s b os ns g f z n = go (cases_eq n s)
+  where
+    go : (n ≡ s) ⊎ (n ≡ s → ⊥) → overrun_of n (areas_of n ns) ≡ overrun_of n (areas_of n os)
+    go (inl q) = ap (λ k. overrun_of k (areas_of k ns)) q ∙ of_one s b (areas_of s ns) g.sole f ∙ sym (ap (λ k. overrun_of k (areas_of k os)) q ∙ z)
+    go (inr q) = ap (overrun_of n) (g.same n q)
+
+by_some : (all : List (Option Area)) (a : Area) (s : ℕ) → a.section ≡ s → overrun_by all (Some a) ≡ overrun_of s (areas_of s all)
+unfolding overrun_by
+by_some all a s e = ap (λ k. overrun_of k (areas_of k all)) e
+
+by_none : (all : List (Option Area)) → overrun_by all None ≡ None
+unfolding overrun_by
+by_none all = refl
+
+pub grown_steady : (s : ℕ) (b : Bytes) (os ns : List (Option Area)) → Grown s b os ns → overrun ns ≡ overrun os
+unfolding pushed started
+grown_steady s b os ns (inl (a, e, one, f, w)) =
+    let g = grew_more s a (pushed a b) os ns e e one w in
+    swap_steady (Some a) (Some (pushed a b)) os ns w (grew_same s (pushed a b) os ns g f (of_one s a (areas_of s os) one f)) (by_some os (pushed a b) s e ∙ sym (by_some os a s e))
+grown_steady s b os ns (inr (none, w)) =
+    let g = grew_first s (pushed (started s) b) os ns refl none w in
+    let z = of_no s (areas_of s os) none in
+    swap_steady None (Some (pushed (started s) b)) os ns w (grew_same s (pushed (started s) b) os ns g refl z) (by_some os (pushed (started s) b) s refl ∙ z ∙ sym (by_none os))
+
+pub stayed_steady : (s : ℕ) (os ns : List (Option Area)) → Stayed s os ns → overrun ns ≡ overrun os
+unfolding started
+stayed_steady s os ns (inl e) = ap overrun e
+stayed_steady s os ns (inr (none, w)) =
+    let g = grew_first s (started s) os ns refl none w in
+    let z = of_no s (areas_of s os) none in
+    swap_steady None (Some (started s)) os ns w (grew_same s (started s) os ns g refl z) (by_some os (started s) s refl ∙ z ∙ sym (by_none os))
+
+-- no overrun: none in any section
+
+earlier_none : (x y : Option Overrun) → earlier x y ≡ None → (x ≡ None) × (y ≡ None)
+earlier_none None y e = (refl, e)
+earlier_none (Some x) None e = let z : ◌≡◌ {A = ℕ} 0 1 = cc in absurd (omega arith)
+earlier_none (Some x) (Some y) e = absurd (go (leb x.place.section y.place.section) e)
+  where
+    go : (b : Bool) → cond b (Some x) (Some y) ≡ None → ⊥
+    go true f = let z : ◌≡◌ {A = ℕ} 0 1 = cc in omega arith
+    go false f = let z : ◌≡◌ {A = ℕ} 0 1 = cc in omega arith
+
+-- a section of which there is an area
+in_each : (all xs : List (Option Area)) (n : ℕ) → overrun_in all xs ≡ None → (areas_of n xs ≡ []) ⊎ (overrun_of n (areas_of n all) ≡ None)
+unfolding overrun_in areas_of overrun_by
+in_each all [] n e = inl refl
+in_each all (None ∷ xs) n e = in_each all xs n e
+in_each all (Some a ∷ xs) n e =
+    let p = earlier_none (overrun_of a.section (areas_of a.section all)) (overrun_in all xs) e in
+    go (cases_eq n a.section) p.0 (in_each all xs n p.1)
+  where
+    go : (n ≡ a.section) ⊎ (n ≡ a.section → ⊥) → overrun_of a.section (areas_of a.section all) ≡ None → (areas_of n xs ≡ []) ⊎ (overrun_of n (areas_of n all) ≡ None) → (areas_of n (Some a ∷ xs) ≡ []) ⊎ (overrun_of n (areas_of n all) ≡ None)
+    go (inl q) z c = inr (ap (λ k. overrun_of k (areas_of k all)) q ∙ z)
+    go (inr q) z (inl c) = inl (own_not n a xs q ∙ c)
+    go (inr q) z (inr c) = inr c
+
+none_each : (all : List (Option Area)) → overrun all ≡ None → (n : ℕ) → overrun_of n (areas_of n all) ≡ None
+unfolding overrun
+none_each all e n = go (in_each all all n e)
+  where
+    go : (areas_of n all ≡ []) ⊎ (overrun_of n (areas_of n all) ≡ None) → overrun_of n (areas_of n all) ≡ None
+    go (inl z) = of_no n (areas_of n all) z
+    go (inr z) = z
+
+none_in : (all xs : List (Option Area)) → ((n : ℕ) → overrun_of n (areas_of n all) ≡ None) → overrun_in all xs ≡ None
+unfolding overrun_in overrun_by
+none_in all [] h = refl
+none_in all (None ∷ xs) h = none_in all xs h
+none_in all (Some a ∷ xs) h = ap (λ e. earlier e (overrun_in all xs)) (h a.section) ∙ none_in all xs h
+
+-- the first of a section's areas
+behind_prefix : (n k : ℕ) (f : Option Defect) (xs ys : List Area) → behind n k f (xs ++ ys) ≡ None → behind n k f xs ≡ None
+unfolding behind
+behind_prefix n k (Some f) xs ys e = e
+behind_prefix n k None [] ys e = refl
+behind_prefix n k None (x ∷ xs) ys e = e
+
+prefix : (n : ℕ) (xs ys : List Area) → overrun_of n (xs ++ ys) ≡ None → overrun_of n xs ≡ None
+unfolding overrun_of
+prefix n [] ys e = refl
+prefix n (a ∷ xs) ys e = behind_prefix n (length a.records) a.defect xs ys e
+
+pub freed_clean : (i s : ℕ) (os ns : List (Option Area)) → ns ≡ cleared_from i s os → overrun os ≡ None → overrun ns ≡ None
+unfolding overrun
+freed_clean i s os ns e z =
+    ap overrun e ∙ none_in (cleared_from i s os) (cleared_from i s os) (λ n. go n (cases_lt n s))
+  where
+    go : (n : ℕ) → (n < s) ⊎ (s ≤ n) → overrun_of n (areas_of n (cleared_from i s os)) ≡ None
+    go n (inr h) = ap (overrun_of n) (freed-above i n s os h) ∙ none_each os z n
+    go n (inl h) =
+        ap (overrun_of n) (freed-below i n s os h)
+        ∙ prefix n (areas_of n (take i os)) (areas_of n (drop i os)) (ap (overrun_of n) (sym (areas_append n (take i os) (drop i os)) ∙ ap (areas_of n) (take-append-drop i os)) ∙ none_each os z n)
+
+pub cleared_clean : (s : ℕ) (os ns : List (Option Area)) → ns ≡ map (cleared s) os → overrun os ≡ None → overrun ns ≡ None
+unfolding cleared_from
+cleared_clean s os ns e z = freed_clean 0 s os ns e z
