@@ -1,8 +1,10 @@
 -- How a search goes over the areas, one by one. Assumes nothing.
-use Rattle.std.proofs.Common.{◌≡◌, ℕ, ◌+◌, ◌<◌, ◌≤◌, true, false, not, eqb, ◌⊎◌, List, [], ◌∷◌, length, get_or, drop, is_some, Some, None, Option, sym, refl, ap, ◌∙◌, inl, inr}
-use Rattle.std.proofs.lemmas.List.{drop_more, drop_all}
-use Rattle.std.proofs.lemmas.Bool.{cond-true, cond-false, eqb-true, eq-eqb, ne_eqb, cases_eq, true≢false, false≢true}
+use Rattle.std.proofs.Common.{◌≡◌, ℕ, suc, ◌+◌, ◌-◌, ◌<◌, ◌≤◌, Bool, true, false, not, MatchOption, subst, arith, eqb, ◌⊎◌, List, [], ◌∷◌, length, get_or, drop, is_some, Some, None, Option, sym, refl, ap, ◌∙◌, inl, inr}
+use Rattle.std.proofs.lemmas.List.{drop_more, drop_all, drop-drop, length-drop, get_or-drop}
+use Rattle.std.proofs.lemmas.Bool.{cases_Bool, cases_lt, lt-ltb, le-ltb, cond-true, cond-false, eqb-true, eq-eqb, ne_eqb, cases_eq, true≢false, false≢true}
+use Rattle.std.proofs.lemmas.List.Sums.{passes_at_first}
 use Rattle.std.specs.Option.{option_map, option_eq}
+use Rattle.std.specs.List.{position, position_or_len}
 use Rattle.area.specs.Area.{Area}
 use Rattle.areas.specs.Plan.{owned_by, areas_of, First, spared}
 
@@ -16,35 +18,67 @@ unfolding owned_by
 owned_is s None = refl
 owned_is s (Some a) = eqb_sym a.section s (cases_eq a.section s)
 
+-- what a search answers
+
+placed : {X : Type 0} (p : X → Bool) (xs : List X) (i : ℕ) → Some i ≡ position p xs → (i ≡ position_or_len p xs) × (position_or_len p xs < length xs)
+placed p xs i e = go (cases_lt (position_or_len p xs) (length xs))
+  where
+    go : (position_or_len p xs < length xs) ⊎ (length xs ≤ position_or_len p xs) → (i ≡ position_or_len p xs) × (position_or_len p xs < length xs)
+    go (inl h) = let f : Some i ≡ Some (position_or_len p xs) = e ∙ cond-true _ _ _ (lt-ltb _ _ h) in (cc, h)
+    go (inr h) = let f : Some i ≡ None = e ∙ cond-false _ _ _ (le-ltb _ _ h) in let z : ◌≡◌ {A = ℕ} 0 1 = cc in absurd (omega arith)
+
+missing : {X : Type 0} (p : X → Bool) (xs : List X) → None ≡ position p xs → length xs ≤ position_or_len p xs
+missing p xs e = go (cases_lt (position_or_len p xs) (length xs))
+  where
+    go : (position_or_len p xs < length xs) ⊎ (length xs ≤ position_or_len p xs) → length xs ≤ position_or_len p xs
+    go (inl h) = let f : None ≡ Some (position_or_len p xs) = e ∙ cond-true _ _ _ (lt-ltb _ _ h) in let z : ◌≡◌ {A = ℕ} 0 1 = cc in absurd (omega arith)
+    go (inr h) = h
+
+-- what a search passes over makes no difference
+skipped : {X Y : Type 0} (p : X → Bool) (f : List X → Y) → ((x : X) (xs : List X) → p x ≡ false → f (x ∷ xs) ≡ f xs) → (xs : List X) → f (drop (position_or_len p xs) xs) ≡ f xs
+skipped p f h [] = refl
+skipped p f h (x ∷ xs) = go (cases_Bool (p x)) (skipped p f h xs)
+  where
+    go : (p x ≡ true) ⊎ (p x ≡ false) → f (drop (position_or_len p xs) xs) ≡ f xs → f (drop (position_or_len p (x ∷ xs)) (x ∷ xs)) ≡ f (x ∷ xs)
+    go (inl e) _ = simp e
+    go (inr e) ih = let z : 1 + position_or_len p xs ≡ suc (position_or_len p xs) = omega arith in simp (e, z) (ih ∙ sym (h x xs e))
+
 -- an area of another section is passed over
 of_pass : (s : ℕ) (o : Option Area) (os : List (Option Area)) → owned_by s o ≡ false → areas_of s (o ∷ os) ≡ areas_of s os
 unfolding areas_of owned_by
 of_pass s None os e = refl
 of_pass s (Some a) os e = cond-false _ _ _ e
 
-pub pass : (s i : ℕ) (os : List (Option Area)) → i < length os → owned_by s (get_or os i None) ≡ false → areas_of s (drop i os) ≡ areas_of s (drop (i + 1) os)
-pass s i os h e = ap (areas_of s) (drop_more os i None h) ∙ of_pass s (get_or os i None) (drop (i + 1) os) e
+-- the first of a section, from a place on
 
-pub none_left : (s i : ℕ) (os : List (Option Area)) → length os ≤ i → areas_of s (drop i os) ≡ []
+pub found_none : (s start : ℕ) (os : List (Option Area)) → None ≡ position (owned_by s) (drop start os) → areas_of s (drop start os) ≡ []
 unfolding areas_of
-none_left s i os h = ap (areas_of s) (drop_all i os h)
+found_none s start os e =
+    let xs = drop start os in
+    sym (skipped (owned_by s) (areas_of s) (of_pass s) xs) ∙ ap (areas_of s) (drop_all (position_or_len (owned_by s) xs) xs (missing (owned_by s) xs e))
 
--- one of the section is the first
-pub found : (s start i : ℕ) (os : List (Option Area)) → start ≤ i → i < length os → areas_of s (drop i os) ≡ areas_of s (drop start os) → owned_by s (get_or os i None) ≡ true → First s start i os
+first_is : (s start i : ℕ) (os : List (Option Area)) (o : Option Area) → start ≤ i → i < length os → get_or os i None ≡ o → areas_of s (drop i os) ≡ areas_of s (drop start os) → owned_by s o ≡ true → First s start i os
 unfolding owned_by areas_of
-found s start i os g h inv e = go (get_or os i None) refl e
-  where
-    go : (o : Option Area) → get_or os i None ≡ o → owned_by s o ≡ true → First s start i os
-    go None w t = absurd (false≢true t)
-    go (Some a) w t =
-        record {
-          area = a;
-          since = g;
-          within = h;
-          here = w;
-          section = sym (eqb-true s a.section t);
-          first = sym inv ∙ ap (areas_of s) (drop_more os i None h) ∙ ap (λ o. areas_of s (o ∷ drop (i + 1) os)) w ∙ cond-true _ _ _ t;
-        }
+first_is s start i os None g h w inv t = absurd (false≢true t)
+first_is s start i os (Some a) g h w inv t =
+    record {
+      area = a;
+      since = g;
+      within = h;
+      here = w;
+      section = sym (eqb-true s a.section t);
+      first = sym inv ∙ ap (areas_of s) (drop_more os i None h) ∙ ap (λ o. areas_of s (o ∷ drop (i + 1) os)) w ∙ cond-true _ _ _ t;
+    }
+
+pub found_at : (s start i : ℕ) (os : List (Option Area)) → Some i ≡ position (owned_by s) (drop start os) → First s start (start + i) os
+found_at s start i os e =
+    let xs = drop start os in
+    let n = position_or_len (owned_by s) xs in
+    let p = placed (owned_by s) xs i e in
+    let l : length xs ≡ length os - start = length-drop start os in
+    let inv : areas_of s (drop (start + n) os) ≡ areas_of s xs = ap (areas_of s) (sym (drop-drop n start os)) ∙ skipped (owned_by s) (areas_of s) (of_pass s) xs in
+    let here : owned_by s (get_or os (start + n) None) ≡ true = ap (owned_by s) (sym (get_or-drop start os n None)) ∙ passes_at_first (owned_by s) xs None p.1 in
+    subst (λ (k : ℕ). First s start (start + k) os) (sym p.0) (first_is s start (start + n) os (get_or os (start + n) None) (omega arith) (omega (arith, p.1)) refl inv here)
 
 -- a free one
 pub spared_pass : (o : Option Area) (os : List (Option Area)) → not (is_some o) ≡ false → spared (o ∷ os) ≡ spared os
@@ -57,14 +91,15 @@ unfolding spared
 spared-here None os e = (refl, refl)
 spared-here (Some a) os e = absurd (false≢true e)
 
-pub spare_pass : (i : ℕ) (os : List (Option Area)) → i < length os → not (is_some (get_or os i None)) ≡ false → spared (drop i os) ≡ spared (drop (i + 1) os)
-spare_pass i os h e = ap spared (drop_more os i None h) ∙ spared_pass (get_or os i None) (drop (i + 1) os) e
-
-pub spare_here : (i : ℕ) (os : List (Option Area)) → i < length os → spared (drop i os) ≡ spared os → not (is_some (get_or os i None)) ≡ true → (spared os ≡ true) × (i < length os) × (get_or os i None ≡ None)
-spare_here i os h inv e =
-    let p = spared-here (get_or os i None) (drop (i + 1) os) e in
-    (sym inv ∙ ap spared (drop_more os i None h) ∙ p.0, h, p.1)
-
-pub spare_none : (i : ℕ) (os : List (Option Area)) → length os ≤ i → spared (drop i os) ≡ false
+pub spare_from : (os : List (Option Area)) (r : Option ℕ) → r ≡ position (λ o. not (is_some o)) os → MatchOption r (spared os ≡ false) (λ i. (spared os ≡ true) × (i < length os) × (get_or os i None ≡ None))
 unfolding spared
-spare_none i os h = ap spared (drop_all i os h)
+spare_from os None e =
+    sym (skipped (λ o. not (is_some o)) spared spared_pass os) ∙ ap spared (drop_all (position_or_len (λ o. not (is_some o)) os) os (missing (λ o. not (is_some o)) os e))
+spare_from os (Some i) e =
+    let free : Option Area → Bool = λ o. not (is_some o) in
+    let n = position_or_len free os in
+    let p = placed free os i e in
+    let here = passes_at_first free os None p.1 in
+    let first = spared-here (get_or os n None) (drop (n + 1) os) here in
+    let all : spared os ≡ true = sym (skipped free spared spared_pass os) ∙ ap spared (drop_more os n None p.1) ∙ first.0 in
+    subst (λ (k : ℕ). (spared os ≡ true) × (k < length os) × (get_or os k None ≡ None)) (sym p.0) (all, p.1, first.1)

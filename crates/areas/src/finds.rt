@@ -35,12 +35,11 @@ pub fn owns(area: &[u8], section: u64) -> bool
 pub fn find(medium: &[u8], section: u64, from: usize) -> Option<usize>
     ensures { MatchOption result (areas_of section (drop from (plan medium.now)) ≡ []) (λ i. First section from i (plan medium.now)) }
 {
-    for i in from..count(medium) {
-        if owns(part(medium, i), section) {
-            return Some(i);
-        }
-    }
-    None
+    let at = medium
+        .chunks_exact(AREA)
+        .skip(from)
+        .position(|area| owns(area, section))?;
+    Some(from + at)
 }
 
 // Whether an area is free.
@@ -54,10 +53,5 @@ fn is_free(area: &[u8]) -> bool
 pub fn spare(medium: &[u8]) -> Option<usize>
     ensures { MatchOption result (spared (plan medium.now) ≡ false) (λ i. (spared (plan medium.now) ≡ true) × (i < length (plan medium.now)) × (slice_index_or (plan medium.now) i None ≡ None)) }
 {
-    for i in 0..count(medium) {
-        if is_free(part(medium, i)) {
-            return Some(i);
-        }
-    }
-    None
+    medium.chunks_exact(AREA).position(is_free)
 }

@@ -1,19 +1,20 @@
-use Rattle.std.proofs.Common.{sym, ap, ◌∙◌, arith}
+use Rattle.std.proofs.Common.{◌∙◌, sym, rules}
+use Rattle.std.proofs.lemmas.Iterator.Adapters.{YieldsList-from_skip}
+use Rattle.std.proofs.lemmas.Iterator.Consumers.{YieldsList-at}
+use Rattle.std.proofs.lemmas.Iterator.Search.{position_from_yields_List}
 use Rattle.areas.specs.Plan.{owned_by, plan}
-use Rattle.areas.proofs.Walks.{found, pass, none_left}
+use Rattle.areas.proofs.Chunks.{YieldsList-areas}
+use Rattle.areas.proofs.Walks.{found_none, found_at}
 use Rattle.areas.proofs.finds.find.Goals as goal
 
-pub returns-then-owns : goal.returns-then-owns
-returns-then-owns c =
-    let n = c.count-i-end.ensures in
-    found c.args.section c.args.«from» c.loop-i.i (plan c.args.medium.now) (omega arith) (omega arith) c.loop-i.invariant (ap (owned_by c.args.section) (sym c.part.ensures.reads) ∙ sym c.if-owns.ensures)
-
-pub loop-i-preserved : goal.loop-i-preserved
-loop-i-preserved c =
-    let n = c.count-i-end.ensures in
-    sym (pass c.args.section c.loop-i.i (plan c.args.medium.now) (omega arith) (ap (owned_by c.args.section) (sym c.part.ensures.reads) ∙ sym c.if-owns.ensures)) ∙ c.loop-i.invariant
+pub returns-in_err-at : goal.returns-in_err-at
+returns-in_err-at c =
+    let at = position_from_yields_List (owned_by c.args.section) _ _ c.position.result c.position.ensures.ran (YieldsList-from_skip c.args.«from» (YieldsList-at c.skip.ensures.source (YieldsList-areas c.args.medium.now c.chunks_exact.ensures.rest c.chunks_exact.ensures.size)) c.skip.ensures.count)
+    (λ x b q k. search rules) in
+    rw c.from_residual.ensures (found_none c.args.section c.args.«from» (plan c.args.medium.now) (sym c.in_err-at.was ∙ at))
 
 pub returns : goal.returns
 returns c =
-    let n = c.count-i-end.ensures in
-    sym c.loop-i.invariant ∙ none_left c.args.section c.loop-i.i (plan c.args.medium.now) (omega arith)
+    let at = position_from_yields_List (owned_by c.args.section) _ _ c.position.result c.position.ensures.ran (YieldsList-from_skip c.args.«from» (YieldsList-at c.skip.ensures.source (YieldsList-areas c.args.medium.now c.chunks_exact.ensures.rest c.chunks_exact.ensures.size)) c.skip.ensures.count)
+    (λ x b q k. search rules) in
+    found_at c.args.section c.args.«from» c.in_ok-at.at (plan c.args.medium.now) (sym c.in_ok-at.was ∙ at)
