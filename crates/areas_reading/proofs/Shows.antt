@@ -1,14 +1,14 @@
 -- Which area shows the records of a section. Assumes nothing.
-use Rattle.std.proofs.Common.{◌≡◌, ℕ, zero, suc, ◌+◌, ◌/◌, ◌<◌, ◌≤◌, true, false, cond, ◌&&◌, eqb, ◌⊎◌, List, [], ◌∷◌, map, length, get_or, take, drop, is_some, Some, None, Option, sym, refl, ap, ◌∙◌, inl, inr, arith}
-use Rattle.std.proofs.lemmas.List.{drop_more, drop_all, length-take}
+use Rattle.std.proofs.Common.{◌≡◌, ℕ, zero, suc, ◌/◌, ◌≤◌, true, false, cond, ◌&&◌, eqb, ◌⊎◌, List, [], ◌∷◌, map, length, take, drop, is_some, MatchOption, Some, None, Option, sym, refl, ap, ◌∙◌, inl, inr, arith}
+use Rattle.std.proofs.lemmas.List.{length-take}
 use Rattle.std.proofs.lemmas.Bool.{cond-true, cond-false, true≢false, false≢true, and_parts, and_left, cases_Bool}
 use Rattle.std.specs.Option.{option_map}
-use Rattle.std.specs.List.{slice_get}
+use denote.Ref.{Bor}
+use Rattle.std.specs.List.{find, slice_get}
 use Rattle.area.specs.Area.{Area, read, area_of, records_of}
 use Rattle.area.proofs.Marks.{read_is}
 use Rattle.area.proofs.Steps.{count_of}
-use Rattle.areas.specs.Plan.{owned_by, areas_of, some, shows, or_else, first_records, records_in, area_at, parts, areas_in, plan}
-use Rattle.areas.proofs.Parts.{get_d_plan}
+use Rattle.areas.specs.Plan.{owned_by, areas_of, some, shows, or_else, first_records, records_in, parts, areas_in, plan}
 
 pub records_is : (bs : List ℕ) (a : Area) → read bs ≡ Some a → a.records ≡ records_of bs
 unfolding area_of
@@ -58,21 +58,36 @@ in_here s a os e =
     let p = and_parts (eqb s a.section) (some a.records) e in
     ap first_records (cond-true _ _ _ p.0) ∙ or_else_lem a.records _ p.1
 
-pub shown_pass : (s i : ℕ) (os : List (Option Area)) → i < length os → shows s (get_or os i None) ≡ false → records_in s (drop i os) ≡ records_in s (drop (i + 1) os)
-shown_pass s i os h e = ap (records_in s) (drop_more os i None h) ∙ in_pass s (get_or os i None) (drop (i + 1) os) e
-
-pub shown_none : (s i : ℕ) (os : List (Option Area)) → length os ≤ i → records_in s (drop i os) ≡ []
+none_in : (s : ℕ) → records_in s [] ≡ []
 unfolding records_in areas_of first_records
-shown_none s i os h = ap (records_in s) (drop_all i os h)
+none_in s = refl
 
 shown_by : (s : ℕ) (bs : List ℕ) (o : Option Area) (os : List (Option Area)) → read bs ≡ o → shows s o ≡ true → records_in s (o ∷ os) ≡ records_of bs
 unfolding shows
 shown_by s bs None os e h = absurd (false≢true h)
 shown_by s bs (Some a) os e h = in_here s a os h ∙ records_is bs a e
 
-pub shown-here : (s i : ℕ) (bs : List ℕ) → i < length (plan bs) → records_in s (drop i (plan bs)) ≡ records_in s (plan bs) → shows s (get_or (plan bs) i None) ≡ true → (i < length (plan bs)) × (records_in s (plan bs) ≡ records_of (area_at i bs))
-shown-here s i bs h inv e =
-    (h, sym inv ∙ ap (records_in s) (drop_more (plan bs) i None h) ∙ shown_by s (area_at i bs) (get_or (plan bs) i None) (drop (i + 1) (plan bs)) (sym (get_d_plan bs i h)) e)
+-- what a search for the area that shows the section answers
+
+held_none : (s : ℕ) (os : List (Option Area)) → None ≡ find (shows s) os → records_in s os ≡ []
+held_none s [] e = none_in s
+held_none s (o ∷ os) e = go (cases_Bool (shows s o)) (held_none s os)
+  where
+    go : (shows s o ≡ true) ⊎ (shows s o ≡ false) → (None ≡ find (shows s) os → records_in s os ≡ []) → records_in s (o ∷ os) ≡ []
+    go (inl h) ih = let f : None ≡ Some o = e ∙ cond-true _ _ _ h in let z : ◌≡◌ {A = ℕ} 0 1 = cc in absurd (omega arith)
+    go (inr h) ih = in_pass s o os h ∙ ih (e ∙ cond-false _ _ _ h)
+
+held_some : (s : ℕ) (os : List (Option Area)) (bs : List ℕ) → Some (read bs) ≡ find (shows s) os → records_in s os ≡ records_of bs
+held_some s [] bs e = let z : ◌≡◌ {A = ℕ} 0 1 = cc in absurd (omega arith)
+held_some s (o ∷ os) bs e = go (cases_Bool (shows s o)) (held_some s os bs)
+  where
+    go : (shows s o ≡ true) ⊎ (shows s o ≡ false) → (Some (read bs) ≡ find (shows s) os → records_in s os ≡ records_of bs) → records_in s (o ∷ os) ≡ records_of bs
+    go (inl h) ih = let f : Some (read bs) ≡ Some o = e ∙ cond-true _ _ _ h in shown_by s bs o os (cc) h
+    go (inr h) ih = in_pass s o os h ∙ ih (e ∙ cond-false _ _ _ h)
+
+pub held_from : (s : ℕ) (os : List (Option Area)) (r : Option (Bor (List ℕ))) → option_map (λ x. read x.now) r ≡ find (shows s) os → MatchOption r (records_in s os ≡ []) (λ x. records_in s os ≡ records_of x.now)
+held_from s os None e = held_none s os e
+held_from s os (Some x) e = held_some s os x.now e
 
 pub some_mapped : {X Y : Type 0} (f : X → Y) (o : Option X) → is_some (option_map f o) ≡ is_some o
 some_mapped f None = refl
@@ -81,7 +96,7 @@ some_mapped f (Some x) = refl
 -- a section has fewer records than an area has bytes
 in_parts : (s n : ℕ) (bs : List ℕ) → length (records_in s (map read (parts n bs))) ≤ 4096
 unfolding parts
-in_parts s zero bs = let e : records_in s [] ≡ [] = shown_none s 0 [] (omega arith) in simp e (omega arith)
+in_parts s zero bs = let e : records_in s [] ≡ [] = none_in s in simp e (omega arith)
 in_parts s (suc n) bs = go (cases_Bool (shows s (read (take 4096 bs)))) (in_parts s n (drop 4096 bs))
   where
     go : (shows s (read (take 4096 bs)) ≡ true) ⊎ (shows s (read (take 4096 bs)) ≡ false) → length (records_in s (map read (parts n (drop 4096 bs)))) ≤ 4096 → length (records_in s (map read (parts (suc n) bs))) ≤ 4096

@@ -1,22 +1,11 @@
 -- The record that is read next. Assumes nothing.
-use Rattle.std.specs.Prelude.{◌≡◌, ℕ, ◌+◌, ◌<◌, cond, List, length, Some, None, Option, nat_le, slice_index_or}
+use Rattle.std.specs.Prelude.{ℕ, ◌+◌, List, Some, None, Option}
 use Rattle.std.specs.Option.{option_map}
 use Rattle.std.specs.List.{slice_get}
 use Rattle.area.specs.Area.{Area}
 use Rattle.journal.specs.Log.{Placed}
 use Rattle.journal.specs.declared.places.Place.{Place}
-use Rattle.areas_reading.specs.declared.low.Low.{Low}
 use Rattle.areas.specs.Plan.{records_in, lowest}
-
--- of two finds the one with the lower section, and of equals the first
-abbrev pub nearer : Low → Option Low → Low
-nearer x None = x
-nearer x (Some y) = cond (nat_le x.section y.section) x y
-
--- what a find says of the area that is looked for
-abbrev pub Points : Option Low → Option Area → List (Option Area) → Type 0
-Points None o os = o ≡ None
-Points (Some x) o os = (a : Area) × (o ≡ Some a) × (x.section ≡ a.section) × (x.at < length os) × (slice_index_or os x.at None ≡ Some a)
 
 -- a record of a section with its number
 abbrev pub placed_at : ℕ → ℕ → List ℕ → Placed

@@ -1,7 +1,6 @@
 //! What is read from the areas of a byte journal: the next record, and the first overrun.
 #![tactic(auto)]
 
-mod low;
 mod nexts;
 mod overruns;
 

@@ -4,11 +4,10 @@ ghost use Rattle.std.specs.Option.{option_map};
 ghost use Rattle.std.specs.List.{slice_get};
 ghost use Rattle.area.specs.Area.{read, records_of};
 ghost use Rattle.journal.specs.Places.{placed};
-ghost use Rattle.areas.specs.Plan.{area_at, plan, some, shows, records_in, above as Above, candidate as Candidate, lowest as Lowest};
-ghost use Rattle.areas_reading.specs.Next.{nearer as Nearer, Points, placed_at, leading, next_of};
+ghost use Rattle.areas.specs.Plan.{plan, some, shows, records_in, above as Above, candidate as Candidate, lowest as Lowest};
+ghost use Rattle.areas_reading.specs.Next.{placed_at, leading, next_of};
 
-use crate::low::Low;
-use areas::{count, owns, part};
+use areas::{AREA, owns};
 use journal::{Place, Record};
 
 // Whether an area has a record.
@@ -26,25 +25,19 @@ fn is_shown(area: &[u8], section: u64) -> bool
 }
 
 // The area that shows the records of a section.
-fn holder(medium: &[u8], section: u64) -> Option<usize>
-    ensures { MatchOption result (records_in section (plan medium.now) ≡ []) (λ i. (i < length (plan medium.now)) × (records_in section (plan medium.now) ≡ records_of (area_at i medium.now))) }
+fn holder(medium: &[u8], section: u64) -> Option<&[u8]>
+    ensures { MatchOption result (records_in section (plan medium.now) ≡ []) (λ area. records_in section (plan medium.now) ≡ records_of area.now) }
 {
-    for i in 0..count(medium) {
-        if is_shown(part(medium, i), section) {
-            return Some(i);
-        }
-    }
-    None
+    medium
+        .chunks_exact(AREA)
+        .find(|area| is_shown(area, section))
 }
 
 // Whether a section is above a number, where one is given.
 fn is_above(low: Option<u64>, section: u64) -> bool
     ensures { result ≡ Above low section }
 {
-    match low {
-        None => true,
-        Some(low) => low < section,
-    }
+    low.is_none_or(|low| low < section)
 }
 
 // The section of an area that has a record, if it is above.
@@ -58,36 +51,14 @@ fn candidate(area: &[u8], low: Option<u64>) -> Option<u64>
     has_record(area).then_some(section)
 }
 
-// Of two finds the one with the lower section, and of equals the first.
-fn nearer(x: Low, best: Option<Low>) -> Low
-    ensures { result ≡ Nearer x best }
+// The lowest section above a number of which an area has a record.
+fn lowest(medium: &[u8], low: Option<u64>) -> Option<u64>
+    ensures { result ≡ option_map (λ a. a.section) (Lowest low (plan medium.now)) }
 {
-    match best {
-        Some(y) if y.section < x.section => y,
-        _ => x,
-    }
-}
-
-// What is the best find once the `i`-th area is looked at, too.
-fn improved(medium: &[u8], low: Option<u64>, i: usize, best: Option<Low>) -> Option<Low>
-    requires { i < length (plan medium.now) }
-    ensures { Points best (Lowest low (drop (i + 1) (plan medium.now))) (plan medium.now) → Points result (Lowest low (drop i (plan medium.now))) (plan medium.now) }
-{
-    match candidate(part(medium, i), low) {
-        None => best,
-        Some(section) => Some(nearer(Low { section, at: i }, best)),
-    }
-}
-
-// The area with the lowest section above a number that has a record, and of two of one section the first.
-fn lowest(medium: &[u8], low: Option<u64>) -> Option<Low>
-    ensures { Points result (Lowest low (plan medium.now)) (plan medium.now) }
-{
-    let mut best = None;
-    for i in (0..count(medium)).rev() {
-        best = improved(medium, low, i, best);
-    }
-    best
+    medium
+        .chunks_exact(AREA)
+        .filter_map(|area| candidate(area, low))
+        .min()
 }
 
 // A record of an area, with its place.
@@ -99,20 +70,18 @@ fn record_in(area: &[u8], section: u64, number: u64) -> Option<Record<'_>>
     Some(Record { place, bytes })
 }
 
-// The first record of the lowest section above a number.
-fn first_above(medium: &[u8], low: Option<u64>) -> Option<Record<'_>>
-    ensures { option_map placed result ≡ leading (Lowest low (plan medium.now)) }
-{
-    let find = lowest(medium, low)?;
-    record_in(part(medium, find.at), find.section, 0)
-}
-
 // The record of a section with a number.
 fn record_of(medium: &[u8], section: u64, number: u64) -> Option<Record<'_>>
     ensures { option_map placed result ≡ option_map (placed_at section number) (slice_get (records_in section (plan medium.now)) number) }
 {
-    let i = holder(medium, section)?;
-    record_in(part(medium, i), section, number)
+    record_in(holder(medium, section)?, section, number)
+}
+
+// The first record of the lowest section above a number.
+fn first_above(medium: &[u8], low: Option<u64>) -> Option<Record<'_>>
+    ensures { option_map placed result ≡ leading (Lowest low (plan medium.now)) }
+{
+    record_of(medium, lowest(medium, low)?, 0)
 }
 
 // The next record of the section of a place.

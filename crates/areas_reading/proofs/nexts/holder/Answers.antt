@@ -1,19 +1,10 @@
-use Rattle.std.proofs.Common.{sym, ap, ◌∙◌, arith}
+use Rattle.std.proofs.Common.{rules}
+use Rattle.std.proofs.lemmas.Iterator.Search.{find_from_yields_List}
 use Rattle.areas.specs.Plan.{shows, plan}
-use Rattle.areas_reading.proofs.Shows.{shown-here, shown_pass, shown_none}
+use Rattle.areas.proofs.Chunks.{YieldsList-areas}
+use Rattle.areas_reading.proofs.Shows.{held_from}
 use Rattle.areas_reading.proofs.nexts.holder.Goals as goal
-
-pub returns-then-is_shown : goal.returns-then-is_shown
-returns-then-is_shown c =
-    let n = c.count-i-end.ensures in
-    shown-here c.args.section c.loop-i.i c.args.medium.now (omega arith) c.loop-i.invariant (ap (shows c.args.section) (sym c.part.ensures.reads) ∙ sym c.if-is_shown.ensures)
-
-pub loop-i-preserved : goal.loop-i-preserved
-loop-i-preserved c =
-    let n = c.count-i-end.ensures in
-    sym (shown_pass c.args.section c.loop-i.i (plan c.args.medium.now) (omega arith) (ap (shows c.args.section) (sym c.part.ensures.reads) ∙ sym c.if-is_shown.ensures)) ∙ c.loop-i.invariant
 
 pub returns : goal.returns
 returns c =
-    let n = c.count-i-end.ensures in
-    sym c.loop-i.invariant ∙ shown_none c.args.section c.loop-i.i (plan c.args.medium.now) (omega arith)
+    held_from c.args.section (plan c.args.medium.now) c.find.result (find_from_yields_List (shows c.args.section) _ _ c.find.result c.find.ensures.ran (YieldsList-areas c.args.medium.now c.chunks_exact.ensures.rest c.chunks_exact.ensures.size) (λ x b q k. search rules))
