@@ -77,6 +77,10 @@ pub length-framed : (body : List ℕ) → length (framed body) ≡ length body +
 unfolding framed
 length-framed body = simp length-append (omega arith)
 
+-- the two bytes of a record's length
+pub two_bytes : (n : ℕ) → n ≤ 1068 → ◌≡◌ {A = List ℕ} (n / 256 % 256 ∷ n % 256 ∷ []) (n / 256 ∷ n % 256 ∷ [])
+two_bytes n h = let z : n / 256 % 256 ≡ n / 256 = omega arith in ap (λ m. m ∷ n % 256 ∷ []) z
+
 -- a frame in three parts
 module _ (old a1 : List ℕ) (e hi lo : ℕ) (room : e + 3 ≤ length old) (w1 : a1 ≡ put (e + 1) (hi ∷ lo ∷ []) old) where
   pub head-kept : Kept (e + 1) old a1

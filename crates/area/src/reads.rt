@@ -5,8 +5,9 @@ ghost use Rattle.std.specs.List.{slice_get};
 ghost use Rattle.area.specs.Area.{records_of, end_of, defect_at, defect_of, read};
 ghost use Rattle.area.specs.Writes.{room_in};
 
-use crate::records::{HEAD, MARK, NO_MARK, Records, byte};
+use crate::records::{HEAD, MARK, NO_MARK, PREFIX, Records, byte};
 use journal::{Defect, MAX_RECORD};
+use std::array;
 
 /// The section of an area in use; `None` of a free one.
 #[tactic(auto, unfolding(crate::specs::Area::read, crate::specs::Area::area_of, crate::specs::Area::section_of))]
@@ -16,16 +17,7 @@ pub fn section(area: &[u8]) -> Option<u64>
     if byte(area, 0) == NO_MARK {
         return None;
     }
-    Some(u64::from_be_bytes([
-        byte(area, 1),
-        byte(area, 2),
-        byte(area, 3),
-        byte(area, 4),
-        byte(area, 5),
-        byte(area, 6),
-        byte(area, 7),
-        byte(area, 8),
-    ]))
+    Some(u64::from_be_bytes(array::from_fn(|i| byte(area, i + 1))))
 }
 
 /// The record of this number, counted from 0.
@@ -42,7 +34,7 @@ fn end(area: &[u8]) -> usize
 {
     let mut end = HEAD;
     for body in Records::new(area) {
-        end += 3 + body.len();
+        end += PREFIX + body.len();
     }
     end
 }
@@ -79,9 +71,5 @@ pub(crate) fn room(area: &[u8], len: usize) -> Option<usize>
         return None;
     }
     let end = end(area);
-    if end + 3 + len < area.len() {
-        Some(end)
-    } else {
-        None
-    }
+    (end + PREFIX + len < area.len()).then_some(end)
 }

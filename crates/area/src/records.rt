@@ -15,6 +15,9 @@ pub(crate) const NO_MARK: u8 = 0;
 /// Where the first record of an area stands: behind the mark and the section.
 pub(crate) const HEAD: usize = 9;
 
+/// What stands in front of a record's body: its mark and two bytes for its length.
+pub(crate) const PREFIX: usize = 3;
+
 // The byte at a place; past the last byte each counts as 0.
 pub(crate) fn byte(area: &[u8], at: usize) -> u8
     ensures { result ≡ slice_index area.now at }
@@ -43,7 +46,8 @@ fn body_at(area: &[u8], at: usize) -> Option<&[u8]>
     if len > MAX_RECORD {
         return None;
     }
-    area.get(at + 3..at + 3 + len)
+    let start = at + PREFIX;
+    area.get(start..start + len)
 }
 
 /// The records of an area, from the first to the last.
@@ -80,7 +84,7 @@ impl<'a> Iterator for Records<'a> {
     #[tactic(auto, using(crate::proofs::Steps::at_none, crate::proofs::Steps::at_next, crate::proofs::Steps::body_inside))]
     fn next(&mut self) -> Option<&'a [u8]> {
         let body = body_at(self.area, self.at)?;
-        self.at += 3 + body.len();
+        self.at += PREFIX + body.len();
         Some(body)
     }
 }

@@ -4,7 +4,7 @@ ghost use Rattle.area.specs.Edits.{put, framed, added, begun};
 ghost use Rattle.area.specs.Writes.{Appended, Freed, Started, Stored};
 
 use crate::reads::room;
-use crate::records::{HEAD, MARK, NO_MARK};
+use crate::records::{HEAD, MARK, NO_MARK, PREFIX};
 use journal::Stop;
 use power::spend;
 
@@ -41,10 +41,9 @@ fn store_frame(
     ensures { Stored (length body.now + 3) (end + 1) area.old (put (end + 1) (framed body.now) area.old) power.old result area.new power.new }
 {
     let len = body.len();
-    let head = [(len / 256) as u8, (len % 256) as u8];
-    store_all(area, power, end + 1, &head)?;
-    store_all(area, power, end + 3, body)?;
-    store(area, power, end + 3 + len, NO_MARK)
+    store_all(area, power, end + 1, &(len as u16).to_be_bytes())?;
+    store_all(area, power, end + PREFIX, body)?;
+    store(area, power, end + PREFIX + len, NO_MARK)
 }
 
 // Stores a record in the place of the end mark: what follows its mark, and its mark last.
@@ -67,8 +66,7 @@ fn store_head(area: &mut [u8], power: &mut Option<u64>, section: u64) -> Result<
     requires { 9 < length area.old }
     ensures { Stored 10 1 area.old (begun section area.old) power.old result area.new power.new }
 {
-    let bytes = section.to_be_bytes();
-    store_all(area, power, 1, &bytes)?;
+    store_all(area, power, 1, &section.to_be_bytes())?;
     store(area, power, HEAD, NO_MARK)?;
     store(area, power, 0, MARK)
 }
