@@ -1,3 +1,4 @@
+pub mod Wholes
 pub mod Lookup
 pub mod Sieve
 pub mod Value

@@ -12,6 +12,10 @@ ghost use Rattle.byte_journal.specs.Value.{bytes_of, bound_of, power_of, name_of
 
 use journal::{Journal, Overrun, Place, ReadStop, Record, Stop};
 
+mod laws;
+
+pub use laws::{appends_whole, first_area_shows, prune_frees, prunes_whole};
+
 /// A journal over lent bytes, in areas of 4,096. Each byte is one store.
 #[derive(Drop)]
 pub struct ByteJournal<'a> {
@@ -52,14 +56,14 @@ impl ByteJournal<'_> {
     pub fn bound(&self) -> u64
         ensures { result ≡ bound_of self.now }
     {
-        self.bound
+        self.bound // in memory alone, so a cut takes it
     }
 
     /// How many stores the power still lasts, or `None` for ever.
     pub fn power(&self) -> Option<u64>
         ensures { result ≡ power_of self.now }
     {
-        self.power
+        self.power // as far as the stores so far have left it
     }
 
     // The first overrun in reading order.
