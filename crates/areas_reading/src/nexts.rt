@@ -96,11 +96,8 @@ fn record_past(medium: &[u8], place: Place) -> Option<Record<'_>>
 pub fn next(medium: &[u8], after: Option<Place>) -> Option<Record<'_>>
     ensures { option_map placed result ≡ next_of after (plan medium.now) }
 {
-    match after {
-        None => first_above(medium, None),
-        Some(place) => record_past(medium, place).or_else(|| first_above(
-            medium,
-            Some(place.section),
-        )),
-    }
+    let Some(place) = after else {
+        return first_above(medium, None);
+    };
+    record_past(medium, place).or_else(|| first_above(medium, Some(place.section)))
 }
