@@ -6,14 +6,14 @@ use Rattle.journal.specs.Cuts.{AllLeft, Cut}
 use Rattle.journal.proofs.Firm.{firmer_refl}
 use Rattle.journal.proofs.Lost.{lost_cut}
 use Rattle.slots.specs.declared.slot.Slot.{Slot}
-use Rattle.slots.specs.declared.medium.Vacancy.{Vacancy}
+use Rattle.slots.specs.declared.stores.Vacancy.{Vacancy}
 use Rattle.slots.specs.Order.{order, highest}
-use Rattle.slots.specs.Value.{body, blank, grouped, log_of, space, over}
+use Rattle.slots.specs.Value.{body, blank, grouped, log_of, space, disk, over}
 use Rattle.slots.specs.Stores.{Holds, freed, swept, Sweeping}
 use Rattle.std.specs.Result.{result_ok}
 use Rattle.std.specs.Option.{ok_or}
 use Rattle.slots.specs.Vacancies.{NoRoom, Room}
-use Rattle.journal.specs.Steps.{Disk, Appended, Pruning}
+use Rattle.journal.specs.Steps.{Appended, Pruning}
 use Rattle.journal.specs.declared.stops.Stop.{Stop}
 use Rattle.journal.specs.declared.stops.Stop.TheVariants.{Full, Off}
 use Rattle.slots.proofs.Sorting.{rising}
@@ -21,10 +21,6 @@ use Rattle.slots.proofs.Groups.{stored, firmer_stored, solid_grouped, formed_log
 use Rattle.slots.proofs.Added.{grouped-set, vacant-at}
 use Rattle.slots.proofs.Overruns.{over-set, over-swept}
 use Rattle.slots.proofs.Pruned.{keep, stays, order-freed, order-swept, grouped-from, grouped-left}
-
--- the value, with its space rule
-abbrev pub disk : ℕ → List Slot → Disk
-disk bound xs = record { log = log_of bound xs; room = space xs; flushes = true }
 
 -- a record in a free slot is the value with it appended
 pub store_step : (bound s : ℕ) (b : Bytes) (v : Vacancy) (y : Slot) (xs : List Slot) → Room v xs → Holds s v.age b y →

@@ -1,7 +1,7 @@
 -- Where the next record goes. Assumes nothing.
 use Rattle.std.specs.Prelude.{◌≡◌, ℕ, ◌+◌, true, false, List, Some}
 use Rattle.slots.specs.declared.slot.Slot.{Slot}
-use Rattle.slots.specs.declared.medium.Vacancy.{Vacancy}
+use Rattle.slots.specs.declared.stores.Vacancy.{Vacancy}
 use Rattle.slots.specs.Order.{vacant, highest}
 use Rattle.slots.specs.Value.{space}
 

@@ -1,5 +1,5 @@
 -- What a list of slots is worth as a journal. Assumes nothing.
-use Rattle.std.specs.Prelude.{ℕ, suc, ◌+◌, ◌^◌, min, Bool, true, false, cond, List, [], ◌∷◌, take, is_some, Some, None, Option, ◌==◌, nat_lt}
+use Rattle.std.specs.Prelude.{◌≡◌, ℕ, suc, ◌+◌, ◌^◌, min, Bool, true, false, cond, List, [], ◌∷◌, take, is_some, Some, None, Option, ◌==◌, nat_lt}
 use Rattle.journal.specs.Log.{Bytes, Section, Log, Placed}
 use Rattle.journal.specs.Steps.{Disk}
 use Rattle.journal.specs.declared.places.Defect.{Defect}
@@ -37,21 +37,33 @@ space xs s n = cond (is_some (vacant xs)) (nat_lt (highest xs + 1) (2 ^ 64)) fal
 abbrev pub log_of : ℕ → List Slot → Log
 log_of bound xs = record { bound = bound; sections = grouped (order xs) }
 
+-- the value of a list of slots under a bound, with its space rule; it holds nothing back
+abbrev pub disk : ℕ → List Slot → Disk
+disk bound xs = record { log = log_of bound xs; room = space xs; flushes = true }
+
 -- the slots of a slot journal
 abbrev pub slots_of : SlotJournal → List Slot
-slots_of j = j.medium.slots.now
+slots_of j = j.slots.now
+
+-- the name of the borrow of its slots: while it stays, the journal lies in the slots that were lent
+abbrev pub name_of : SlotJournal → ℕ
+name_of j = j.slots.ghost_name
 
 -- how many stores its power still lasts, or no limit
 abbrev pub power_of : SlotJournal → Option ℕ
-power_of j = j.medium.power
+power_of j = j.power
 
 -- its bound
 abbrev pub bound_of : SlotJournal → ℕ
 bound_of j = j.bound
 
--- the value of a slot journal, with its space rule; it holds nothing back
+-- the same borrow of slots, and the same bound
+abbrev pub SameRest : SlotJournal → SlotJournal → Type 0
+SameRest j k = (name_of k ≡ name_of j) × (bound_of k ≡ bound_of j)
+
+-- the value of a slot journal
 abbrev pub disk_of : SlotJournal → Disk
-disk_of j = record { log = log_of (bound_of j) (slots_of j); room = space (slots_of j); flushes = true }
+disk_of j = disk (bound_of j) (slots_of j)
 
 -- the number of a record, n where it is of section s, the section before it
 abbrev pub turn : ℕ → ℕ → Cell → ℕ

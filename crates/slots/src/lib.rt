@@ -7,25 +7,27 @@ ghost use Rattle.journal.specs.Laws.{Told};
 ghost use Rattle.journal.specs.Log.{Formed};
 ghost use Rattle.journal.specs.Steps.{Appended, Synced, AllSynced, Pruning, Reading, Steady, Clean};
 ghost use Rattle.slots.specs.Stores.{Powered, unders};
-ghost use Rattle.slots.specs.Value.{slots_of, power_of, bound_of, disk_of, overrun_of};
+ghost use Rattle.slots.specs.Value.{slots_of, name_of, power_of, bound_of, disk_of, overrun_of};
 
-use crate::medium::Medium;
 use crate::reading::{first_overrun, next_record};
 use journal::{Journal, MAX_RECORD, Overrun, Place, ReadStop, Record, Stop};
 
 mod entries;
-mod medium;
 mod reading;
 mod search;
 mod slot;
+mod stores;
 
 pub use slot::Slot;
 
 /// A journal over lent slots. Each record is one store, and so is each record that prune frees.
+// kept: no struct of its own for the slots and the power: of a loan within a field's field a caller learns nothing when it ends
 #[derive(Drop)]
 pub struct SlotJournal<'a> {
-    // where the records lie, and the power for stores
-    medium: Medium<'a>,
+    // where the records lie
+    slots: &'a mut [Slot],
+    // how many stores the power still lasts, or no limit
+    power: Option<u64>,
     // no record is added to a section below it
     bound: u64,
 }
@@ -36,20 +38,37 @@ impl SlotJournal<'_> {
         ensures bound { bound_of result ≡ 0 }
         ensures power { power_of result ≡ None }
         ensures slots { slots_of result ≡ slots.old }
+        ensures same_slots { name_of result ≡ slots.entry.ghost_name }
+    {
+        SlotJournal::resume(slots, 0, None)
+    }
+
+    /// The journal in `slots`, whatever they hold, with this bound, and with power for so many stores or for ever.
+    pub fn resume<'a>(slots: &'a mut [Slot], bound: u64, power: Option<u64>) -> SlotJournal<'a>
+        ensures bound { bound_of result ≡ bound }
+        ensures power { power_of result ≡ power }
+        ensures slots { slots_of result ≡ slots.old }
+        ensures same_slots { name_of result ≡ slots.entry.ghost_name }
     {
         SlotJournal {
-            medium: Medium { slots, power: None },
-            bound: 0,
+            slots,
+            power,
+            bound,
         }
     }
 
-    /// Lets the power last for so many stores, or for ever.
-    pub fn set_power(&mut self, stores: Option<u64>)
-        ensures power { power_of self.new ≡ stores }
-        ensures disk { disk_of self.new ≡ disk_of self.old }
-        ensures overrun { overrun_of self.new ≡ overrun_of self.old }
+    /// The bound: no record is added to a section below it.
+    pub fn bound(&self) -> u64
+        ensures { result ≡ bound_of self.now }
     {
-        self.medium.power = stores;
+        self.bound // no cut keeps it
+    }
+
+    /// How many stores the power still lasts, or `None` for ever.
+    pub fn power(&self) -> Option<u64>
+        ensures { result ≡ power_of self.now }
+    {
+        self.power // as the stores so far have left it
     }
 
     // The first record with a defect.
@@ -57,7 +76,7 @@ impl SlotJournal<'_> {
     fn first_overrun(&self) -> Option<Overrun>
         ensures { result ≡ overrun_of self.now }
     {
-        first_overrun(self.medium.slots)
+        first_overrun(self.slots)
     }
 }
 
@@ -70,6 +89,7 @@ impl Journal for SlotJournal<'_> {
         ensures step { Appended (disk_of self.old) section bytes.now result (disk_of self.new) }
         ensures overruns { Steady result (overrun_of self.old) (overrun_of self.new) }
         ensures power { Powered 1 result (power_of self.old) (power_of self.new) }
+        ensures same_slots { name_of self.new ≡ name_of self.old }
     {
         if section < self.bound {
             return Err(Stop::Pruned);
@@ -77,9 +97,9 @@ impl Journal for SlotJournal<'_> {
         if bytes.len() > MAX_RECORD {
             return Err(Stop::Full);
         }
-        let free = self.medium.vacancy().ok_or(Stop::Full)?;
+        let free = self.vacancy().ok_or(Stop::Full)?;
         let slot = Slot::holding(section, free.age, bytes);
-        if let Err(stop) = self.medium.store(free.at, slot) {
+        if let Err(stop) = self.store(free.at, slot) {
             self.bound = 0;
             return Err(stop);
         }
@@ -90,6 +110,7 @@ impl Journal for SlotJournal<'_> {
         ensures step { Synced (disk_of self.old) section result (disk_of self.new) }
         ensures overruns { Steady result (overrun_of self.old) (overrun_of self.new) }
         ensures power { Powered 0 result (power_of self.old) (power_of self.new) }
+        ensures same_slots { name_of self.new ≡ name_of self.old }
     {
         Ok(()) // what is stored is durable
     }
@@ -98,6 +119,7 @@ impl Journal for SlotJournal<'_> {
         ensures step { AllSynced (disk_of self.old) result (disk_of self.new) }
         ensures overruns { Steady result (overrun_of self.old) (overrun_of self.new) }
         ensures power { Powered 0 result (power_of self.old) (power_of self.new) }
+        ensures same_slots { name_of self.new ≡ name_of self.old }
     {
         Ok(()) // so is every section
     }
@@ -106,8 +128,9 @@ impl Journal for SlotJournal<'_> {
         ensures step { Pruning (disk_of self.old) section result (disk_of self.new) }
         ensures overruns { Clean (overrun_of self.old) (overrun_of self.new) }
         ensures power { Powered (unders section (slots_of self.old)) result (power_of self.old) (power_of self.new) }
+        ensures same_slots { name_of self.new ≡ name_of self.old }
     {
-        if let Err(stop) = self.medium.free_below(section) {
+        if let Err(stop) = self.free_below(section) {
             self.bound = 0;
             return Err(stop);
         }
@@ -119,6 +142,7 @@ impl Journal for SlotJournal<'_> {
         ensures step { Reading (disk_of self.old) (overrun_of self.old) result (disk_of self.new) (overrun_of self.new) }
         ensures formed { Formed (disk_of self.new).log }
         ensures power { Told result × (power_of self.new ≡ power_of self.old) }
+        ensures same_slots { name_of self.new ≡ name_of self.old }
     {
         match self.first_overrun() {
             Some(overrun) => Err(ReadStop::Overrun(overrun)),
@@ -127,13 +151,14 @@ impl Journal for SlotJournal<'_> {
     }
 
     fn next(&self, after: Option<Place>) -> Option<Record<'_>> {
-        next_record(self.medium.slots, after)
+        next_record(self.slots, after)
     }
 
     fn cut(&mut self)
         ensures step { Cut 0 (disk_of self.old).log (disk_of self.new).log }
         ensures overruns { Clean (overrun_of self.old) (overrun_of self.new) }
         ensures power { power_of self.new ≡ power_of self.old }
+        ensures same_slots { name_of self.new ≡ name_of self.old }
     {
         self.bound = 0; // it was in memory only
     }

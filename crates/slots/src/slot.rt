@@ -8,6 +8,7 @@ use journal::MAX_RECORD;
 /// A record of a section with its age and its length, or free where the age is 0.
 // kept: a lent medium's layout. It may hold anything, also a length past the bytes, which reading answers as an overrun.
 #[derive(Clone, Copy, Debug, PartialEq, Eq)]
+#[repr(C)]
 pub struct Slot {
     /// The section that the record is in.
     pub section: u64,

@@ -7,4 +7,4 @@ use Rattle.slots.proofs.SlotJournalJournal.cut.Goals as goal
 pub returns-clause-step : goal.returns-clause-step
 returns-clause-step c =
     let j = c.args.self.now in
-    solid_cut 0 (log_of j.bound j.medium.slots.now) (solid_grouped (order j.medium.slots.now)) (formed_log j.bound j.medium.slots.now)
+    solid_cut 0 (log_of j.bound j.slots.now) (solid_grouped (order j.slots.now)) (formed_log j.bound j.slots.now)

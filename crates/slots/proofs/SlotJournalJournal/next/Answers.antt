@@ -10,6 +10,6 @@ pub returns : goal.returns
 returns c =
     let j = c.args.self.now in
     record {
-      first = c.next_record.ensures ∙ ap (λ (l : List Placed). first_of (beyond c.args.after l)) (sym (reading-grouped (order j.medium.slots.now)));
-      formed = formed_log j.bound j.medium.slots.now;
+      first = c.next_record.ensures ∙ ap (λ (l : List Placed). first_of (beyond c.args.after l)) (sym (reading-grouped (order j.slots.now)));
+      formed = formed_log j.bound j.slots.now;
     }

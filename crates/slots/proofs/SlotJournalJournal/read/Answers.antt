@@ -11,9 +11,10 @@ returns-in-Some c =
     let o = c.in-Some.overrun in
     let e = sym c.in-Some.ensures in
     record {
-      step = (refl, refl, e, e, solid_synced_to o.place.section o.place.number (log_of j.bound j.medium.slots.now) (solid_grouped (order j.medium.slots.now)));
-      formed = formed_log j.bound j.medium.slots.now;
+      step = (refl, refl, e, e, solid_synced_to o.place.section o.place.number (log_of j.bound j.slots.now) (solid_grouped (order j.slots.now)));
+      formed = formed_log j.bound j.slots.now;
       power = (tt, refl);
+      same_slots = refl;
     }
 
 pub returns-in-None : goal.returns-in-None
@@ -21,7 +22,8 @@ returns-in-None c =
     let j = c.args.self.now in
     let e = sym c.in-None.ensures in
     record {
-      step = (refl, refl, e, e, solid_all-synced (log_of j.bound j.medium.slots.now) (solid_grouped (order j.medium.slots.now)));
-      formed = formed_log j.bound j.medium.slots.now;
+      step = (refl, refl, e, e, solid_all-synced (log_of j.bound j.slots.now) (solid_grouped (order j.slots.now)));
+      formed = formed_log j.bound j.slots.now;
       power = (tt, refl);
+      same_slots = refl;
     }

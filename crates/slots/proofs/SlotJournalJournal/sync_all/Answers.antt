@@ -8,4 +8,4 @@ use Rattle.slots.proofs.SlotJournalJournal.sync_all.Goals as goal
 pub returns-clause-step : goal.returns-clause-step
 returns-clause-step c =
     let j = c.args.self.now in
-    (refl, refl, solid_all-synced (log_of j.bound j.medium.slots.now) (solid_grouped (order j.medium.slots.now)))
+    (refl, refl, solid_all-synced (log_of j.bound j.slots.now) (solid_grouped (order j.slots.now)))

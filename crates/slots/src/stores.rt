@@ -1,20 +1,12 @@
-//! Stores into a list of slots, one slot each, as long as the power lasts.
+//! The stores of a journal, one slot each, as long as the power lasts.
 ghost use Rattle.std.specs.Prelude.{◌≡◌, ◌<◌, length, if◌then◌else◌, MatchOption, slice_set, is_ok};
 ghost use Rattle.slots.specs.Stores.{lasts, lit, spent, stores_at, unders, freed_at, Sweeping};
+ghost use Rattle.slots.specs.Value.{SameRest};
 ghost use Rattle.slots.specs.Vacancies.{NoRoom, Room};
 
 use crate::search::{free_place, highest_age};
-use crate::slot::Slot;
+use crate::{Slot, SlotJournal};
 use journal::Stop;
-
-/// A list of slots, with the power for stores into it.
-#[derive(Drop)]
-pub struct Medium<'a> {
-    /// Where the records lie.
-    pub slots: &'a mut [Slot],
-    /// How many stores the power still lasts, or no limit.
-    pub power: Option<u64>,
-}
 
 /// A free slot, and the age of the record that goes there.
 #[derive(Clone, Copy, Debug, PartialEq, Eq)]
@@ -25,7 +17,7 @@ pub struct Vacancy {
     pub age: u64,
 }
 
-impl Medium<'_> {
+impl SlotJournal<'_> {
     // Where the next record goes.
     #[tactic(auto, using(crate::proofs::Rooms::none_free, crate::proofs::Rooms::none_young, crate::proofs::Rooms::some_room))]
     pub(crate) fn vacancy(&self) -> Option<Vacancy>
@@ -40,7 +32,8 @@ impl Medium<'_> {
     fn spend(&mut self) -> Result<(), Stop>
         ensures answer { result ≡ lit (lasts 1 self.old.power) }
         ensures left { self.new.power ≡ spent 1 self.old.power }
-        ensures same { self.new.slots.now ≡ self.old.slots.now }
+        ensures same { SameRest self.old self.new }
+        ensures slots { self.new.slots.now ≡ self.old.slots.now }
     {
         if let Some(stores) = self.power {
             self.power = Some(stores.checked_sub(1).ok_or(Stop::Off)?);
@@ -54,6 +47,7 @@ impl Medium<'_> {
         ensures answer { result ≡ lit (lasts 1 self.old.power) }
         ensures left { self.new.power ≡ spent 1 self.old.power }
         ensures stored { self.new.slots.now ≡ (if is_ok result then slice_set self.old.slots.now at slot else self.old.slots.now) }
+        ensures same { SameRest self.old self.new }
     {
         self.spend()?;
         self.slots[at] = slot;
@@ -66,6 +60,7 @@ impl Medium<'_> {
         ensures answer { result ≡ lit (lasts (stores_at section at self.old.slots.now) self.old.power) }
         ensures left { self.new.power ≡ spent (stores_at section at self.old.slots.now) self.old.power }
         ensures freed { self.new.slots.now ≡ (if is_ok result then freed_at section at self.old.slots.now else self.old.slots.now) }
+        ensures same { SameRest self.old self.new }
     {
         if self.slots[at].is_under(section) {
             self.store(at, Slot::free())?;
@@ -78,6 +73,7 @@ impl Medium<'_> {
         ensures answer { result ≡ lit (lasts (unders section self.old.slots.now) self.old.power) }
         ensures left { self.new.power ≡ spent (unders section self.old.slots.now) self.old.power }
         ensures freed { Sweeping section (is_ok result) self.old.slots.now self.new.slots.now }
+        ensures same { SameRest self.old self.new }
     {
         // kept: by index, since each store borrows the whole medium, and of what a loop over `iter_mut` writes a proof knows the length alone
         for at in 0..self.slots.len() {

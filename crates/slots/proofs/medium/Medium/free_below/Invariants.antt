@@ -1,5 +1,0 @@
-use Rattle.slots.proofs.Powers.{Swept}
-use Rattle.slots.proofs.medium.Medium.free_below.Given as goal
-
-abbrev pub invariant-loop-at : goal.invariant-loop-at
-invariant-loop-at l = Swept l.section l.at l.initial.self.power l.initial.self.slots.now l.self.slots.now l.self.power
