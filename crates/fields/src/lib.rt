@@ -1,0 +1,8 @@
+//! What a word of a line may be: a number, or bytes in hex.
+#![tactic(auto)]
+
+mod faults;
+mod reading;
+
+pub use faults::Fault;
+pub use reading::{array_at, bytes_at, bytes_up_to, number_at};
