@@ -7,6 +7,16 @@ use std::fmt;
 /// Why a word was not taken; places are counted from 1, behind the command.
 #[derive(Clone, Copy, Debug, PartialEq, Eq)]
 pub enum Fault {
+    /// The line ends where a word stands.
+    Missing {
+        /// The place of the word.
+        place: usize,
+    },
+    /// A word stands where the line ends.
+    TooMany {
+        /// The place of the word.
+        place: usize,
+    },
     /// The word is no number, or one that is too large.
     NoNumber {
         /// The place of the word.
@@ -60,6 +70,10 @@ impl fmt::Display for Fault {
 
     fn fmt<W: fmt::Write>(&self, f: &mut fmt::Formatter<W>) -> fmt::Result {
         match *self {
+            Self::Missing { place } => write!(f, "word {place} after the command is missing"),
+            Self::TooMany { place } => {
+                write!(f, "word {place} after the command is one too many")
+            }
             Self::NoNumber { place, most } => write!(
                 f,
                 "word {place} after the command is no number from 0 to {most}"

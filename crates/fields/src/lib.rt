@@ -2,7 +2,9 @@
 #![tactic(auto)]
 
 mod faults;
+mod lines;
 mod reading;
 
 pub use faults::Fault;
+pub use lines::Line;
 pub use reading::{array_at, bytes_at, bytes_up_to, number_at};

@@ -10,7 +10,7 @@ use types::Bytes;
 
 /// The number up to `most` that the word at `place` spells.
 pub fn number_at(word: &[u8], place: usize, most: u64) -> Result<u64, Fault>
-    ensures { result ≡ number_in place most word.now }
+    ensures { result ≡ number_in most place word.now }
 {
     match number(word) {
         Some(value) if value <= most => Ok(value),
@@ -27,7 +27,7 @@ fn len_at(word: &[u8], place: usize) -> Result<usize, Fault>
 
 /// The string of `N` bytes that the word at `place` spells.
 pub fn array_at<K, const N: usize>(word: &[u8], place: usize) -> Result<Bytes<K, N>, Fault>
-    ensures { result_map (λ string. string.bytes) result ≡ array_in place N word.now }
+    ensures { result_map (λ string. string.bytes) result ≡ array_in N place word.now }
 {
     let bytes = len_at(word, place)?;
     match hex_array(word) {
@@ -49,7 +49,7 @@ pub fn bytes_at(heap: Global, word: &[u8], place: usize) -> Result<Vec<u8>, Faul
 
 /// The bytes, at most `most`, that the word at `place` spells.
 pub fn bytes_up_to(heap: Global, word: &[u8], place: usize, most: usize) -> Result<Vec<u8>, Fault>
-    ensures { OrNoMemory no_memory (result_map vec_items result) (few_bytes_in place most word.now) }
+    ensures { OrNoMemory no_memory (result_map vec_items result) (few_bytes_in most place word.now) }
 {
     let bytes = len_at(word, place)?;
     if bytes > most {
