@@ -97,8 +97,7 @@ command name ws =
 -- a refusal that says that no memory is left
 abbrev pub out_of_memory : Refusal → Bool
 out_of_memory (Words fault) = no_memory fault
-out_of_memory Decode = false
-out_of_memory Encode = false
+out_of_memory refusal = false
 
 -- the answer to a line is the one that is meant, unless no memory is left
 abbrev pub Answers : Option (Result Answer Refusal) → Option (Result Said Refusal) → Type 0
