@@ -1,7 +1,7 @@
 -- Steps that a fault ends, and answers that memory may cut short. Assumes nothing.
 use Rattle.std.specs.Prelude.{◌≡◌, Bool, true, false, Ok, Err, Result}
 use Rattle.fields.specs.declared.faults.Fault.{Fault}
-use Rattle.fields.specs.declared.faults.Fault.TheVariants.{Missing, TooMany, NoNumber, NoHex, Length, Long, NoMemory}
+use Rattle.fields.specs.declared.faults.Fault.TheVariants.{NoMemory}
 
 -- the second step, if the first gave a value
 abbrev pub and_then : {A B E : Type 0} → Result A E → (A → Result B E) → Result B E
@@ -20,10 +20,5 @@ OrNoMemory says (Err e) meant = says e ≡ false → Err e ≡ meant
 
 -- the fault that says so
 abbrev pub no_memory : Fault → Bool
-no_memory (Missing place) = false
-no_memory (TooMany place) = false
-no_memory (NoNumber place most) = false
-no_memory (NoHex place) = false
-no_memory (Length place bytes wanted) = false
-no_memory (Long place bytes most) = false
 no_memory NoMemory = true
+no_memory fault = false
