@@ -1,0 +1,6 @@
+pub mod Listings
+pub mod Printed
+pub mod Doing
+pub mod Held
+pub mod Journaled
+pub mod Obeying
