@@ -8,7 +8,7 @@ use Rattle.journal.specs.Log.{Placed, Log, Formed, reading}
 use Rattle.journal.specs.Places.{beyond, first_of}
 use Rattle.journal.specs.declared.places.Overrun.{Overrun}
 use Rattle.journal.specs.declared.places.Place.{Place}
-use Rattle.journal.proofs.Onward.{place, Step, step, done}
+use Rattle.journal.proofs.Onward.{place, step, done}
 use Rattle.console_journal.specs.Listings.{precedes, up_to, record_line, lines}
 
 -- the first record, if it stands before the overrun

@@ -1,10 +1,9 @@
 -- What is answered to a reading.
-use Rattle.std.proofs.Common.{◌≡◌, ℕ, true, List, [], ◌∷◌, length, string_bytes, inr, Ok, Err, Some, None, String, Global, sym, refl, ap, ◌∙◌}
+use Rattle.std.proofs.Common.{◌≡◌, ℕ, true, List, [], ◌∷◌, length, string_bytes, inr, Ok, Err, Some, None, String, Global, refl, ap, ◌∙◌}
 use Rattle.std.proofs.lemmas.List.Sums.{take_while-cons}
 use Rattle.journal.specs.Log.{Placed}
 use Rattle.journal.specs.declared.places.Overrun.{Overrun as Past}
 use Rattle.journal.specs.declared.stops.ReadStop.TheVariants.{Overrun as Overran}
-use Rattle.console_journal.specs.declared.answers.Answer.{Answer}
 use Rattle.console_journal.specs.declared.answers.Answer.TheVariants.{Read, Overrun}
 use Rattle.console_journal.specs.Listings.{up_to, lines}
 use Rattle.console_journal.specs.Doing.{Shown}

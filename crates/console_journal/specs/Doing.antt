@@ -1,5 +1,5 @@
 -- What a command does to the journal that is open, and what is answered. Assumes nothing.
-use Rattle.std.specs.Prelude.{◌≡◌, ℕ, ◌⊎◌, List, length, string_bytes, Some, None, Ok, Err, String, Option, Result}
+use Rattle.std.specs.Prelude.{◌≡◌, ℕ, ◌⊎◌, List, length, string_bytes, Some, Ok, Err, String, Option, Result}
 use Rattle.std.specs.Global.{Global}
 use Rattle.journal.specs.Cuts.{Cut as CutOff}
 use Rattle.journal.specs.Laws.{Op, append, sync, sync_all, prune, read, cut}
@@ -13,9 +13,9 @@ use Rattle.journal.specs.declared.stops.ReadStop.TheVariants.{Overrun as Overran
 use Rattle.power.specs.Power.{Powered}
 use Rattle.console_journal.specs.Listings.{up_to, lines}
 use Rattle.console_journal.specs.declared.answers.Answer.{Answer}
-use Rattle.console_journal.specs.declared.answers.Answer.TheVariants.{NewBytes, NewSlots, Appended, Synced, SyncedAll, Pruned, WentOff, Read, Overrun, Cut, Power, Damaged, Bytes}
+use Rattle.console_journal.specs.declared.answers.Answer.TheVariants.{Appended, Synced, SyncedAll, Pruned, WentOff, Read, Overrun, Cut}
 use Rattle.console_journal.specs.declared.answers.Refusal.{Refusal}
-use Rattle.console_journal.specs.declared.answers.Refusal.TheVariants.{Words, NoJournal, Full, Pruned as RefusedPruned, NoBytes, PastEnd, FileLength, NoMemory}
+use Rattle.console_journal.specs.declared.answers.Refusal.TheVariants.{Full, Pruned as RefusedPruned, NoMemory}
 
 -- a journal: its value with its space rule, its first overrun, and how many stores its power lasts
 pub record Value : Type 0 where

@@ -1,7 +1,7 @@
 -- The journal that is open, as a value: what its medium holds, its bound and its power. Assumes nothing.
-use Rattle.std.specs.Prelude.{◌≡◌, ℕ, List, length, None, Option, Result}
+use Rattle.std.specs.Prelude.{◌≡◌, ℕ, List, length, None, Result}
 use Rattle.byte_journal.specs.Value.{disk as bytes_disk, over as bytes_over, append_cost, prune_cost}
-use Rattle.journal.specs.Laws.{Op, append, sync, sync_all, prune, read, cut}
+use Rattle.journal.specs.Laws.{Op, append, prune}
 use Rattle.slots.specs.declared.slot.Slot.{Slot}
 use Rattle.slots.specs.Stores.{unders}
 use Rattle.slots.specs.Value.{disk as slots_disk, over as slots_over}
@@ -43,26 +43,19 @@ bytes_value c bs = record { disk = bytes_disk c.bound bs; overrun = bytes_over b
 -- how many stores an operation takes: in slots one for a record that is added, and one for each that is dropped
 abbrev pub slots_cost : Op → List Slot → ℕ
 slots_cost (append s b) xs = 1
-slots_cost (sync s) xs = 0
-slots_cost sync_all xs = 0
 slots_cost (prune s) xs = unders s xs
-slots_cost read xs = 0
-slots_cost cut xs = 0
+slots_cost other xs = 0
 
 abbrev pub bytes_cost : Op → List ℕ → ℕ
 bytes_cost (append s b) bs = append_cost s b bs
-bytes_cost (sync s) bs = 0
-bytes_cost sync_all bs = 0
 bytes_cost (prune s) bs = prune_cost s bs
-bytes_cost read bs = 0
-bytes_cost cut bs = 0
+bytes_cost other bs = 0
 
 -- an operation on a journal in some medium, with what it goes on with; the medium stays as long as it is
 abbrev pub OperatedIn : Op → Stored → Carried → Result Answer Refusal → Stored → Carried → Type 0
 OperatedIn op (in_slots xs) c r (in_slots ys) d = Did op (slots_cost op xs) (slots_value c xs) r (slots_value d ys) × (length ys ≡ length xs)
-OperatedIn op (in_slots xs) c r (in_bytes cs) d = ⊥
-OperatedIn op (in_bytes bs) c r (in_slots ys) d = ⊥
 OperatedIn op (in_bytes bs) c r (in_bytes cs) d = Did op (bytes_cost op bs) (bytes_value c bs) r (bytes_value d cs) × (length cs ≡ length bs)
+OperatedIn op s c r t d = ⊥
 
 -- an operation on the journal that is open
 abbrev pub Operated : Op → Held → Result Answer Refusal → Held → Type 0

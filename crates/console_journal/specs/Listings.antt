@@ -1,5 +1,5 @@
 -- The records that reading answers, as they are printed. Assumes nothing.
-use Rattle.std.specs.Prelude.{ℕ, Bool, true, cond, List, [], ◌∷◌, ◌++◌, length, take_while, Some, None, codes, decimal, Option, ◌==◌, nat_lt}
+use Rattle.std.specs.Prelude.{ℕ, Bool, true, cond, List, [], ◌∷◌, ◌++◌, take_while, Some, None, codes, decimal, Option, ◌==◌, nat_lt}
 use Rattle.std.specs.List.{flat_map}
 use Rattle.journal.specs.Log.{Placed}
 use Rattle.journal.specs.declared.places.Overrun.{Overrun}

@@ -1,13 +1,14 @@
 -- What a command does to the journal that is open, if one is, and what is answered. Assumes nothing.
-use Rattle.std.specs.Prelude.{◌≡◌, ℕ, ◌+◌, ◌*◌, ◌/◌, ◌%◌, Bool, true, false, cond, ◌&&◌, ◌⊎◌, List, length, take, drop, replicate, slice_index, slice_set, Some, None, Option, Ok, Err, Result, ◌==◌, nat_lt, nat_le, vec_items, Vec}
-use Rattle.journal.specs.Laws.{Op}
-use Rattle.journal_commands.specs.Reading.{Said, new_bytes, new_slots, operate, power, damage, show}
+use Rattle.std.specs.Prelude.{◌≡◌, ℕ, ◌+◌, ◌*◌, ◌/◌, ◌%◌, cond, ◌&&◌, ◌⊎◌, List, length, take, drop, replicate, slice_index, slice_set, Some, None, Option, Ok, Err, Result, ◌==◌, nat_lt, nat_le, vec_items, Vec}
+use Rattle.journal_commands.specs.Reading.{Said, new_bytes, new_slots, operate, power, damage, show, no_memory}
+use Rattle.journal_commands.specs.declared.faults.Fault.{Fault}
+use Rattle.fields.specs.Results.{OrNoMemory}
 use Rattle.slots.specs.Stores.{free}
 use Rattle.console_journal.specs.Held.{Stored, in_slots, in_bytes, Held, held_of, fresh, Operated}
 use Rattle.console_journal.specs.declared.answers.Answer.{Answer}
 use Rattle.console_journal.specs.declared.answers.Answer.TheVariants.{NewBytes, NewSlots, Power, Damaged, Bytes}
 use Rattle.console_journal.specs.declared.answers.Refusal.{Refusal}
-use Rattle.console_journal.specs.declared.answers.Refusal.TheVariants.{NoJournal, NoBytes, PastEnd, FileLength, NoMemory}
+use Rattle.console_journal.specs.declared.answers.Refusal.TheVariants.{Words, NoJournal, NoBytes, PastEnd, FileLength, NoMemory}
 use Rattle.console_journal.specs.declared.journals.Journals.{Journals}
 use Rattle.std.specs.Global.{Global}
 use Rattle.std.specs.Option.{option_map}
@@ -49,8 +50,8 @@ Shows i n (in_bytes bs) r = Copied (length bs) (part_of i n bs) r
 -- what is done where a journal is open; where none is, that is refused
 abbrev pub OnOpen : (Held → Held → Type 0) → Option Held → Result Answer Refusal → Option Held → Type 0
 OnOpen P None r p = (r ≡ Err NoJournal) × (p ≡ None)
-OnOpen P (Some h) r None = ⊥
 OnOpen P (Some h) r (Some k) = P h k
+OnOpen P (Some h) r None = ⊥
 
 -- what a command does, and what is answered
 abbrev pub Obeys : Said → Option Held → Result Answer Refusal → Option Held → Type 0
@@ -60,6 +61,17 @@ Obeys (operate op) o r p = OnOpen (λ h k. Operated op h r k) o r p
 Obeys (power q) o r p = OnOpen (λ h k. (r ≡ Ok (Power q)) × (k ≡ powered q h)) o r p
 Obeys (damage i b) o r p = OnOpen (λ h k. Damages i b h.stored r k.stored × (k.carried ≡ h.carried)) o r p
 Obeys (show i n) o r p = OnOpen (λ h k. Shows i n h.stored r × (k ≡ h)) o r p
+
+-- what was read of a line, and what it did: nothing, where the words are wrong
+abbrev pub Answered : Result Said Fault → Option Held → Result Answer Refusal → Option Held → Type 0
+Answered (Ok s) o r p = Obeys s o r p
+Answered (Err e) o r p = (r ≡ Err (Words e)) × (p ≡ o)
+
+-- a line that says this, if it is one for this part; memory may end while it is read
+abbrev pub Taken : Option (Result Said Fault) → Option Held → Option (Result Answer Refusal) → Option Held → Type 0
+Taken None o None p = p ≡ o
+Taken (Some meant) o (Some r) p = (m : Result Said Fault) × OrNoMemory no_memory m meant × Answered m o r p
+Taken meant o r p = ⊥
 
 -- the areas of a file of this length: 1 to 1,024, and nothing behind them
 abbrev pub areas_in : ℕ → Option ℕ

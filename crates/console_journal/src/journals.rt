@@ -1,13 +1,15 @@
 //! The journals' part of the console.
 ghost use Rattle.std.specs.Prelude.{◌≡◌, None, length};
 ghost use Rattle.std.specs.Option.{option_map};
-ghost use Rattle.journal_commands.specs.Reading.{said, op_of, new_bytes, new_slots, operate, power, damage, show};
-ghost use Rattle.console_journal.specs.Obeying.{held, Obeys, areas_in, Loads, bytes_held};
+ghost use Rattle.fields.specs.Results.{result_map};
+ghost use Rattle.text.specs.Words.{words};
+ghost use Rattle.journal_commands.specs.Reading.{command, said, op_of, new_bytes, new_slots, operate, power, damage, show};
+ghost use Rattle.console_journal.specs.Obeying.{held, Obeys, Answered, Taken, areas_in, Loads, bytes_held};
 
 use crate::open::{Medium, OpenJournal};
 use crate::{Answer, Refusal};
 use areas::AREA;
-use journal_commands::{Command, MAX_UNITS, Operation};
+use journal_commands::{Command, Fault, MAX_UNITS, Operation, read};
 use slots::Slot;
 use std::alloc::Global;
 
@@ -96,7 +98,7 @@ impl Journals {
     }
 
     /// Does what the command says, and answers.
-    pub fn obey(&mut self, heap: Global, command: Command) -> Result<Answer, Refusal>
+    fn obey(&mut self, heap: Global, command: Command) -> Result<Answer, Refusal>
         ensures { Obeys (said command) (held self.old) result (held self.new) }
     {
         match command {
@@ -107,6 +109,26 @@ impl Journals {
             Command::Damage { place, byte } => self.damage(place, byte),
             Command::Show { from, count } => self.show(heap, from, count),
         }
+    }
+
+    /// Does what was read of a line, and answers.
+    fn answer(&mut self, heap: Global, command: Result<Command, Fault>) -> Result<Answer, Refusal>
+        ensures { Answered (result_map said command) (held self.old) result (held self.new) }
+    {
+        self.obey(heap, command?)
+    }
+
+    /// Takes a line, its first word and the words after it, if it is one for this part: does what it says, and answers.
+    pub fn take(
+        &mut self,
+        heap: Global,
+        name: &[u8],
+        args: &[u8],
+    ) -> Option<Result<Answer, Refusal>>
+        ensures { Taken (command name.now (words args.now)) (held self.old) result (held self.new) }
+    {
+        let command = read(heap, name, args)?;
+        Some(self.answer(heap, command))
     }
 
     /// Opens the byte journal that these bytes are, with no bound and with power for ever: how many areas it has.

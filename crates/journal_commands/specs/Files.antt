@@ -6,7 +6,7 @@ use Rattle.fields.specs.Lines.{Left, next, behind, ended}
 use Rattle.fields.specs.Results.{and_then}
 use Rattle.journal_commands.specs.declared.files.FileLine.{FileLine}
 use Rattle.journal_commands.specs.declared.faults.Fault.{Fault}
-use Rattle.journal_commands.specs.declared.faults.Fault.TheVariants.{Word, Kind, NoAreas}
+use Rattle.journal_commands.specs.declared.faults.Fault.TheVariants.{NoAreas}
 use Rattle.journal_commands.specs.Reading.{in_line}
 
 -- the path of a file, and the number of areas where a new one is to be made

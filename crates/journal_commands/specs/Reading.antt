@@ -1,5 +1,5 @@
 -- What the words of a line say. Assumes nothing.
-use Rattle.std.specs.Prelude.{ℕ, ◌-◌, ◌^◌, Bool, true, false, cond, List, Some, None, Ok, Err, codes, Option, Result}
+use Rattle.std.specs.Prelude.{ℕ, ◌-◌, ◌^◌, Bool, false, cond, List, Some, None, Ok, Err, codes, Option, Result}
 use Rattle.std.specs.Str.{bytes_eq}
 use Rattle.fields.specs.Fields.{word_in, number_in, bytes_in}
 use Rattle.fields.specs.Lines.{Left, line_of, bind, ended}
@@ -11,7 +11,7 @@ use Rattle.journal_commands.specs.declared.commands.Operation.TheVariants.{Appen
 use Rattle.journal_commands.specs.declared.commands.Command.{Command}
 use Rattle.journal_commands.specs.declared.commands.Command.TheVariants.{NewBytes, NewSlots, Operation as Operate, Power as SetPower, Damage as ChangeByte, Show}
 use Rattle.journal_commands.specs.declared.faults.Fault.{Fault}
-use Rattle.journal_commands.specs.declared.faults.Fault.TheVariants.{Word, Kind, NoAreas}
+use Rattle.journal_commands.specs.declared.faults.Fault.TheVariants.{Word, Kind}
 use Rattle.journal_commands.specs.declared.verbs.Verb.{Verb}
 use Rattle.journal_commands.specs.declared.verbs.Verb.TheVariants.{Journal, Append, Sync, SyncAll, Prune, Read, Power, Cut, Damage, Bytes}
 
@@ -119,12 +119,10 @@ command name ws =
 -- the fault that says that no memory is left
 abbrev pub no_memory : Fault → Bool
 no_memory (Word e) = no_memory_in e
-no_memory Kind = false
-no_memory NoAreas = false
+no_memory fault = false
 
 -- what was read of a line, unless memory ended
 abbrev pub IsRead : Option (Result Said Fault) → Option (Result Command Fault) → Type 0
 IsRead None None = Unit {0}
-IsRead None (Some r) = ⊥
-IsRead (Some m) None = ⊥
-IsRead (Some m) (Some r) = OrNoMemory no_memory (result_map said r) m
+IsRead (Some meant) (Some r) = OrNoMemory no_memory (result_map said r) meant
+IsRead meant r = ⊥

@@ -1,4 +1,4 @@
-use Rattle.std.proofs.Common.{string_bytes, sym, ap, ◌∙◌, rules, subst}
+use Rattle.std.proofs.Common.{string_bytes, sym, ap, ◌∙◌, subst}
 use Rattle.std.specs.Option.{option_map}
 use Rattle.journal.specs.Log.{reading}
 use Rattle.journal.specs.Places.{placed}
