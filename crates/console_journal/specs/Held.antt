@@ -1,5 +1,5 @@
 -- The journal that is open, as a value: what its medium holds, its bound and its power. Assumes nothing.
-use Rattle.std.specs.Prelude.{◌≡◌, ℕ, List, length, None, Result}
+use Rattle.std.specs.Prelude.{◌≡◌, ℕ, Bool, List, length, None, Result}
 use Rattle.byte_journal.specs.Value.{disk as bytes_disk, over as bytes_over, append_cost, prune_cost}
 use Rattle.journal.specs.Laws.{Op, append, prune}
 use Rattle.slots.specs.declared.slot.Slot.{Slot}
@@ -22,12 +22,14 @@ abbrev pub stored_in : Medium → Stored
 stored_in (Slots xs) = in_slots xs.items
 stored_in (Bytes bs) = in_bytes bs.items
 
+-- what the medium holds, what the journal goes on with, and whether it is kept in a file
 pub record Held : Type 0 where
   pub stored : Stored
   pub carried : Carried
+  pub kept : Bool
 
 abbrev pub held_of : OpenJournal → Held
-held_of j = record { stored = stored_in j.medium; carried = j.carried }
+held_of j = record { stored = stored_in j.medium; carried = j.carried; kept = j.kept }
 
 -- no bound, and power for ever
 abbrev pub fresh : Carried
@@ -59,4 +61,4 @@ OperatedIn op s c r t d = ⊥
 
 -- an operation on the journal that is open
 abbrev pub Operated : Op → Held → Result Answer Refusal → Held → Type 0
-Operated op h r k = OperatedIn op h.stored h.carried r k.stored k.carried
+Operated op h r k = OperatedIn op h.stored h.carried r k.stored k.carried × (k.kept ≡ h.kept)

@@ -1,5 +1,5 @@
 -- What a command does to the journal that is open, if one is, and what is answered. Assumes nothing.
-use Rattle.std.specs.Prelude.{◌≡◌, ℕ, ◌+◌, ◌*◌, ◌/◌, ◌%◌, cond, ◌&&◌, ◌⊎◌, List, length, take, drop, replicate, slice_index, slice_set, Some, None, Option, Ok, Err, Result, ◌==◌, nat_lt, nat_le, vec_items, Vec}
+use Rattle.std.specs.Prelude.{◌≡◌, ℕ, true, false, ◌+◌, ◌*◌, ◌/◌, ◌%◌, cond, ◌&&◌, ◌⊎◌, List, length, take, drop, replicate, slice_index, slice_set, Some, None, Option, Ok, Err, Result, ◌==◌, nat_lt, nat_le, vec_items, Vec}
 use Rattle.journal_commands.specs.Reading.{Said, new_bytes, new_slots, operate, power, damage, show, no_memory}
 use Rattle.journal_commands.specs.declared.faults.Fault.{Fault}
 use Rattle.fields.specs.Results.{OrNoMemory}
@@ -19,11 +19,11 @@ held j = option_map held_of j.open
 
 -- a new journal over this medium, unless memory ended
 abbrev pub Opens : Stored → Answer → Option Held → Result Answer Refusal → Option Held → Type 0
-Opens s a o r p = ((r ≡ Ok a) × (p ≡ Some (record { stored = s; carried = fresh }))) ⊎ ((r ≡ Err NoMemory) × (p ≡ o))
+Opens s a o r p = ((r ≡ Ok a) × (p ≡ Some (record { stored = s; carried = fresh; kept = false }))) ⊎ ((r ≡ Err NoMemory) × (p ≡ o))
 
 -- the journal with power for so many stores, or for ever
 abbrev pub powered : Option ℕ → Held → Held
-powered q h = record { stored = h.stored; carried = record { bound = h.carried.bound; power = q } }
+powered q h = record { stored = h.stored; carried = record { bound = h.carried.bound; power = q }; kept = h.kept }
 
 -- one of some bytes is changed, if it is there
 abbrev pub changed : ℕ → ℕ → List ℕ → Result Answer Refusal × List ℕ
@@ -59,7 +59,7 @@ Obeys (new_bytes n) o r p = Opens (in_bytes (replicate (n * 4096) 0)) (NewBytes 
 Obeys (new_slots n) o r p = Opens (in_slots (replicate n free)) (NewSlots n) o r p
 Obeys (operate op) o r p = OnOpen (λ h k. Operated op h r k) o r p
 Obeys (power q) o r p = OnOpen (λ h k. (r ≡ Ok (Power q)) × (k ≡ powered q h)) o r p
-Obeys (damage i b) o r p = OnOpen (λ h k. Damages i b h.stored r k.stored × (k.carried ≡ h.carried)) o r p
+Obeys (damage i b) o r p = OnOpen (λ h k. Damages i b h.stored r k.stored × (k.carried ≡ h.carried) × (k.kept ≡ h.kept)) o r p
 Obeys (show i n) o r p = OnOpen (λ h k. Shows i n h.stored r × (k ≡ h)) o r p
 
 -- what was read of a line, and what it did: nothing, where the words are wrong
@@ -80,13 +80,14 @@ areas_in len = cond (((len % 4096) == 0) && (nat_le 1 (len / 4096) && nat_le (le
 -- a journal over the bytes of a file, if these are areas
 abbrev pub Loads : List ℕ → Option ℕ → Option Held → Result ℕ Refusal → Option Held → Type 0
 Loads bs None o r p = (r ≡ Err (FileLength (length bs))) × (p ≡ o)
-Loads bs (Some n) o r p = (r ≡ Ok n) × (p ≡ Some (record { stored = in_bytes bs; carried = fresh }))
+Loads bs (Some n) o r p = (r ≡ Ok n) × (p ≡ Some (record { stored = in_bytes bs; carried = fresh; kept = true }))
 
--- the bytes of the medium, if it has bytes
+-- what is in bytes
 abbrev pub bytes_in : Stored → Option (List ℕ)
 bytes_in (in_slots xs) = None
 bytes_in (in_bytes bs) = Some bs
 
-abbrev pub bytes_held : Option Held → Option (List ℕ)
-bytes_held None = None
-bytes_held (Some h) = bytes_in h.stored
+-- the bytes of the journal that is open, if it came from a file
+abbrev pub kept_bytes : Option Held → Option (List ℕ)
+kept_bytes None = None
+kept_bytes (Some h) = cond h.kept (bytes_in h.stored) None

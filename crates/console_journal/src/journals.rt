@@ -4,7 +4,7 @@ ghost use Rattle.std.specs.Option.{option_map};
 ghost use Rattle.fields.specs.Results.{result_map};
 ghost use Rattle.text.specs.Words.{words};
 ghost use Rattle.journal_commands.specs.Reading.{command, said, op_of, new_bytes, new_slots, operate, power, damage, show};
-ghost use Rattle.console_journal.specs.Obeying.{held, Obeys, Answered, Taken, areas_in, Loads, bytes_held};
+ghost use Rattle.console_journal.specs.Obeying.{held, Obeys, Answered, Taken, areas_in, Loads, kept_bytes};
 
 use crate::open::{Medium, OpenJournal};
 use crate::{Answer, Refusal};
@@ -41,7 +41,7 @@ impl Journals {
     {
         let len = (areas as usize).checked_mul(AREA).ok_or(Refusal::NoMemory)?;
         let bytes = vec![in heap; 0u8; len]?;
-        self.open = Some(OpenJournal::new(Medium::Bytes(bytes)));
+        self.open = Some(OpenJournal::new(Medium::Bytes(bytes), false));
         Ok(Answer::NewBytes(areas))
     }
 
@@ -50,7 +50,7 @@ impl Journals {
         ensures { Obeys (new_slots slots) (held self.old) result (held self.new) }
     {
         let free = vec![in heap; Slot::free(); slots as usize]?;
-        self.open = Some(OpenJournal::new(Medium::Slots(free)));
+        self.open = Some(OpenJournal::new(Medium::Slots(free), false));
         Ok(Answer::NewSlots(slots))
     }
 
@@ -136,17 +136,17 @@ impl Journals {
         ensures { Loads bytes.items (areas_in (length bytes.items)) (held self.old) result (held self.new) }
     {
         let areas = count_areas(bytes.len()).ok_or(Refusal::FileLength(bytes.len()))?;
-        self.open = Some(OpenJournal::new(Medium::Bytes(bytes)));
+        self.open = Some(OpenJournal::new(Medium::Bytes(bytes), true));
         Ok(areas)
     }
 
-    /// The bytes of the journal that is open, if it has bytes.
-    pub fn bytes(&self) -> Option<&[u8]>
-        ensures { option_map (λ bytes. bytes.now) result ≡ bytes_held (held self.now) }
+    /// The bytes of the journal that is open, if it was loaded.
+    pub fn kept_bytes(&self) -> Option<&[u8]>
+        ensures { option_map (λ bytes. bytes.now) result ≡ kept_bytes (held self.now) }
     {
         match &self.open {
-            Some(journal) => journal.medium.bytes(),
-            None => None,
+            Some(journal) if journal.kept => journal.medium.bytes(),
+            _ => None,
         }
     }
 

@@ -71,6 +71,8 @@ pub struct OpenJournal {
     pub medium: Medium,
     /// What it goes on with.
     pub carried: Carried,
+    /// Whether its medium came from a file, and is kept there.
+    pub kept: bool,
 }
 
 /// Does the operation on the journal in these slots, and answers.
@@ -123,9 +125,9 @@ fn operate_in(
 }
 
 impl OpenJournal {
-    /// The journal in an empty medium, with no bound and with power for ever.
-    pub(crate) fn new(medium: Medium) -> Self
-        ensures { held_of result ≡ record { stored = stored_in medium; carried = fresh } }
+    /// The journal in this medium, with no bound and with power for ever.
+    pub(crate) fn new(medium: Medium, kept: bool) -> Self
+        ensures { held_of result ≡ record { stored = stored_in medium; carried = fresh; kept = kept } }
     {
         Self {
             medium,
@@ -133,6 +135,7 @@ impl OpenJournal {
                 bound: 0,
                 power: None,
             },
+            kept,
         }
     }
 
