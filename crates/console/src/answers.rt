@@ -10,6 +10,8 @@ pub enum Answer {
     Tips(console_tips::Answer),
     /// The part for the written forms answers.
     Forms(console_forms::Answer),
+    /// The part for providers answers.
+    Providers(console_provider::Answer),
 }
 
 impl fmt::Display for Answer {
@@ -21,6 +23,7 @@ impl fmt::Display for Answer {
         match self {
             Self::Tips(answer) => answer.fmt(f),
             Self::Forms(answer) => answer.fmt(f),
+            Self::Providers(answer) => answer.fmt(f),
         }
     }
 }

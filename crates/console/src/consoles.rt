@@ -4,7 +4,8 @@ ghost use Rattle.console_tips.specs.Boards.{sitting};
 ghost use Rattle.tips.specs.Ranks.{Safe};
 ghost use Rattle.tips.specs.Seats.{tips_of};
 ghost use Rattle.console.specs.Counters.{none, counted_in};
-ghost use Rattle.console.specs.Heard.{heard, seats_after, Replied};
+ghost use Rattle.console.specs.Heard.{heard, after, Replied};
+ghost use Rattle.console.specs.States.{first, state_of};
 
 use crate::parts::Parts;
 use crate::{Answer, Counts, Refused, Summary};
@@ -22,8 +23,8 @@ pub struct Console {
 
 /// What is replied to a line, and done by a part: nothing for a comment or a line without a word.
 fn reply<'a>(parts: &mut Parts, line: &'a [u8]) -> Result<Option<Answer>, Refused<'a>>
-    ensures seats { sitting parts.new.board ≡ seats_after (heard line.now) (sitting parts.old.board) }
-    ensures reply { Replied (heard line.now) (sitting parts.old.board) (sitting parts.new.board) result }
+    ensures state { state_of parts.new ≡ after (heard line.now) result (state_of parts.old) }
+    ensures reply { Replied (heard line.now) (state_of parts.old) (state_of parts.new) result }
 {
     if line.first() == Some(&b'#') {
         return Ok(None);
@@ -38,7 +39,7 @@ fn reply<'a>(parts: &mut Parts, line: &'a [u8]) -> Result<Option<Answer>, Refuse
 impl Console {
     /// A console that has seen nothing.
     pub fn new(heap: Global) -> Self
-        ensures board { sitting result.parts.board ≡ [] }
+        ensures parts { state_of result.parts ≡ first }
         ensures counts { result.counts ≡ none }
     {
         Self {
@@ -49,8 +50,8 @@ impl Console {
 
     /// Takes a line, and says what it did: nothing, an answer, or why it was refused.
     pub fn take<'a>(&mut self, line: &'a [u8]) -> Result<Option<Answer>, Refused<'a>>
-        ensures seats { sitting self.new.parts.board ≡ seats_after (heard line.now) (sitting self.old.parts.board) }
-        ensures reply { Replied (heard line.now) (sitting self.old.parts.board) (sitting self.new.parts.board) result }
+        ensures state { state_of self.new.parts ≡ after (heard line.now) result (state_of self.old.parts) }
+        ensures reply { Replied (heard line.now) (state_of self.old.parts) (state_of self.new.parts) result }
         ensures counts { self.new.counts ≡ counted_in result self.old.counts }
     {
         let reply = reply(&mut self.parts, line);

@@ -12,6 +12,8 @@ pub enum Refused<'a> {
     Tips(Refusal),
     /// The part for the written forms refuses it.
     Forms(console_forms::Refusal),
+    /// The part for providers refuses it.
+    Providers(console_provider::Refusal),
     /// No command has this name.
     Unknown(&'a [u8]),
 }
@@ -47,6 +49,16 @@ impl From<console_forms::Refusal> for Refused<'_> {
     }
 }
 
+impl From<console_provider::Refusal> for Refused<'_> {
+    ghost use Rattle.console.specs.declared.refusals.Refused.TheVariants.{Providers};
+
+    ghost from_gives = { λ refusal refused. refused ≡ Providers refusal };
+
+    fn from(refusal: console_provider::Refusal) -> Self {
+        Self::Providers(refusal)
+    }
+}
+
 /// The first bytes of a word, as they can be printed: a byte that is no ASCII character stands as two hex digits.
 #[derive(Clone, Copy)]
 struct Excerpt<'a>(&'a [u8]);
@@ -77,6 +89,7 @@ impl fmt::Display for Refused<'_> {
         match *self {
             Self::Tips(refusal) => write!(f, "{refusal}"),
             Self::Forms(refusal) => write!(f, "{refusal}"),
+            Self::Providers(refusal) => write!(f, "{refusal}"),
             Self::Unknown(name) => {
                 let name = Excerpt(name);
                 write!(f, "refused: no command is named {name}, --help lists them")

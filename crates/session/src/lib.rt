@@ -21,6 +21,20 @@ encode certified HEIGHT DIGEST CERTIFICATE
 encode message TIP HEIGHT DIGEST EPOCH SIGNER SIGNATURE
                      the bytes of the message
 
+provider listed, provider pooled
+                     begins anew with this provider, of no epochs yet
+epoch-set E me=K KEY KEY .., epoch-set E me=none KEY KEY ..
+                     the signers of epoch E, above all others so far: 2 to 16 keys in ascending order,
+                     64 hex digits each, or kN for 31 zero bytes and N; signer K of them is the own one
+sign E HEIGHT DIGEST
+                     the own signature
+accepts E SIGNER HEIGHT DIGEST SIGNATURE
+                     whether the signature is accepted
+assemble E SIGNER:SIGNATURE ..
+                     the certificate that the signatures make
+accepts-certificate E HEIGHT DIGEST CERTIFICATE
+                     whether the certificate is accepted, or why it is not
+
 A number is decimal and has at most 64 bits. Bytes are in hex, two digits each, and - stands for none. Empty lines and lines that begin with # are passed over.
 A line that cannot be done is answered by `refused`, and changes nothing.
 The last line printed is a summary.";

@@ -1,0 +1,5 @@
+pub mod Lending
+pub mod Trials
+pub mod Told
+pub mod Doing
+pub mod Printed
