@@ -31,3 +31,10 @@ counted_in r c = record {
   counted = cond (counts r) (next c.counted) c.counted;
   refused = cond (refuses r) (next c.refused) c.refused;
 }
+
+-- the same after a line that was refused or not, and where the last line was refused after all
+abbrev pub with_line : Bool → Counts → Counts
+with_line refused c = record { lines = next c.lines; counted = c.counted; refused = cond refused (next c.refused) c.refused }
+
+abbrev pub with_refusal : Counts → Counts
+with_refusal c = record { lines = c.lines; counted = c.counted; refused = next c.refused }

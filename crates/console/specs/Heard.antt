@@ -1,17 +1,21 @@
 -- What a line says to the console, and what is replied. Assumes nothing.
 use Rattle.std.specs.Prelude.{◌≡◌, ℕ, Bool, false, cond, List, [], ◌∷◌, Some, None, Option, Ok, Err, Result, ◌==◌}
+use Rattle.console_journal.specs.Held.{Held as Journal}
+use Rattle.console_journal.specs.Obeying.{Taken as JournalTaken}
 use Rattle.console_provider.specs.Doing.{next, Taken}
 use Rattle.console_tips.specs.Doing.{after as seats_after, answer, shown_tip, Shows}
 use Rattle.console_forms.specs.Reading.{Said as FormsSaid, said as forms_said, command as forms_command, out_of_memory}
 use Rattle.console_forms.specs.declared.refusals.Refusal.{Refusal as FormsRefusal}
+use Rattle.journal_commands.specs.Reading.{Said as JournalsSaid, command as journals_command}
+use Rattle.journal_commands.specs.declared.faults.Fault.{Fault as JournalsFault}
 use Rattle.provider_commands.specs.Reading.{Said as ProvidersSaid, command as providers_command}
 use Rattle.provider_commands.specs.declared.faults.Fault.{Fault as ProvidersFault}
 use Rattle.text.specs.Words.{words}
 use Rattle.tip_commands.specs.Reading.{Said as TipsSaid, command as tips_command}
 use Rattle.console.specs.declared.answers.Answer.{Answer}
-use Rattle.console.specs.declared.answers.Answer.TheVariants.{Tips as TipsAnswer, Forms as FormsAnswer, Providers as ProvidersAnswer}
+use Rattle.console.specs.declared.answers.Answer.TheVariants.{Tips as TipsAnswer, Forms as FormsAnswer, Providers as ProvidersAnswer, Journals as JournalsAnswer}
 use Rattle.console.specs.declared.refusals.Refused.{Refused}
-use Rattle.console.specs.declared.refusals.Refused.TheVariants.{Tips as TipsRefused, Forms as FormsRefused, Providers as ProvidersRefused, Unknown}
+use Rattle.console.specs.declared.refusals.Refused.TheVariants.{Tips as TipsRefused, Forms as FormsRefused, Providers as ProvidersRefused, Journals as JournalsRefused, Unknown}
 use Rattle.console.specs.States.{State}
 
 -- a line says nothing, a command of one of the parts, or begins with a word that is no command
@@ -20,6 +24,7 @@ pub data Heard : Type 0 where
   tips : TipsSaid → Heard
   forms : Result FormsSaid FormsRefusal → Heard
   providers : Result ProvidersSaid ProvidersFault → Heard
+  journals : Result JournalsSaid JournalsFault → Heard
   unknown : List ℕ → Heard
 
 -- a comment begins with #
@@ -28,15 +33,16 @@ comment [] = false
 comment (c ∷ cs) = c == 35
 
 -- the first part that knows the name takes the command
-abbrev pub taken_by : List ℕ → Option TipsSaid → Option (Result FormsSaid FormsRefusal) → Option (Result ProvidersSaid ProvidersFault) → Heard
-taken_by name (Some s) f p = tips s
-taken_by name None (Some r) p = forms r
-taken_by name None None (Some r) = providers r
-taken_by name None None None = unknown name
+abbrev pub taken_by : List ℕ → Option TipsSaid → Option (Result FormsSaid FormsRefusal) → Option (Result ProvidersSaid ProvidersFault) → Option (Result JournalsSaid JournalsFault) → Heard
+taken_by name (Some s) f p j = tips s
+taken_by name None (Some r) p j = forms r
+taken_by name None None (Some r) j = providers r
+taken_by name None None None (Some r) = journals r
+taken_by name None None None None = unknown name
 
 -- the command of a name and the words behind it
 abbrev pub by_name : List ℕ → List (List ℕ) → Heard
-by_name name ws = taken_by name (tips_command name ws) (forms_command name ws) (providers_command name ws)
+by_name name ws = taken_by name (tips_command name ws) (forms_command name ws) (providers_command name ws) (journals_command name ws)
 
 abbrev pub heard_words : List (List ℕ) → Heard
 heard_words [] = nothing
@@ -52,7 +58,7 @@ after (tips s) r t = record { seats = seats_after s t.seats; trial = t.trial }
 after (providers (Ok s)) (Ok a) t = record { seats = t.seats; trial = next s t.trial }
 after other r t = t
 
--- the reply to a line: the parts hold `old` before it, and `new` after it
+-- the reply to a line: the parts hold `old` before it, and `new` after it; what the journals' part replies is said below
 abbrev pub Replied : Heard → State → State → Result (Option Answer) Refused → Type 0
 Replied nothing old new r = r ≡ Ok None
 Replied (tips s) old new (Ok (Some (TipsAnswer a))) = (Ok a ≡ answer s old.seats (shown_tip (Ok a))) × Shows new.seats (Ok a)
@@ -61,5 +67,13 @@ Replied (forms meant) old new (Ok (Some (FormsAnswer a))) = Ok (forms_said a) �
 Replied (forms meant) old new (Err (FormsRefused e)) = out_of_memory e ≡ false → Err e ≡ meant
 Replied (providers meant) old new (Ok (Some (ProvidersAnswer a))) = Taken (Some meant) old.trial (Some (Ok a))
 Replied (providers meant) old new (Err (ProvidersRefused e)) = Taken (Some meant) old.trial (Some (Err e))
+Replied (journals meant) old new r = Unit {0}
 Replied (unknown w) old new (Err (Unknown x)) = x.now ≡ w
 Replied other old new r = ⊥
+
+-- the journal that is open before a line and after it, and the reply to a line about journals
+abbrev pub Journaled : Heard → Option Journal → Option Journal → Result (Option Answer) Refused → Type 0
+Journaled (journals meant) old new (Ok (Some (JournalsAnswer a))) = JournalTaken (Some meant) old (Some (Ok a)) new
+Journaled (journals meant) old new (Err (JournalsRefused e)) = JournalTaken (Some meant) old (Some (Err e)) new
+Journaled (journals meant) old new r = ⊥
+Journaled other old new r = new ≡ old

@@ -12,6 +12,8 @@ pub enum Answer {
     Forms(console_forms::Answer),
     /// The part for providers answers.
     Providers(console_provider::Answer),
+    /// The part for journals answers.
+    Journals(console_journal::Answer),
 }
 
 impl fmt::Display for Answer {
@@ -24,6 +26,7 @@ impl fmt::Display for Answer {
             Self::Tips(answer) => answer.fmt(f),
             Self::Forms(answer) => answer.fmt(f),
             Self::Providers(answer) => answer.fmt(f),
+            Self::Journals(answer) => answer.fmt(f),
         }
     }
 }

@@ -14,6 +14,8 @@ pub enum Refused<'a> {
     Forms(console_forms::Refusal),
     /// The part for providers refuses it.
     Providers(console_provider::Refusal),
+    /// The part for journals refuses it.
+    Journals(console_journal::Refusal),
     /// No command has this name.
     Unknown(&'a [u8]),
 }
@@ -59,6 +61,16 @@ impl From<console_provider::Refusal> for Refused<'_> {
     }
 }
 
+impl From<console_journal::Refusal> for Refused<'_> {
+    ghost use Rattle.console.specs.declared.refusals.Refused.TheVariants.{Journals};
+
+    ghost from_gives = { λ refusal refused. refused ≡ Journals refusal };
+
+    fn from(refusal: console_journal::Refusal) -> Self {
+        Self::Journals(refusal)
+    }
+}
+
 /// The first bytes of a word, as they can be printed: a byte that is no ASCII character stands as two hex digits.
 #[derive(Clone, Copy)]
 struct Excerpt<'a>(&'a [u8]);
@@ -90,6 +102,7 @@ impl fmt::Display for Refused<'_> {
             Self::Tips(refusal) => write!(f, "{refusal}"),
             Self::Forms(refusal) => write!(f, "{refusal}"),
             Self::Providers(refusal) => write!(f, "{refusal}"),
+            Self::Journals(refusal) => write!(f, "{refusal}"),
             Self::Unknown(name) => {
                 let name = Excerpt(name);
                 write!(f, "refused: no command is named {name}, --help lists them")

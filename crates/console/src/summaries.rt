@@ -26,7 +26,7 @@ pub struct Summary {
 }
 
 impl Counts {
-    ghost use Rattle.console.specs.Counters.{counted_in};
+    ghost use Rattle.console.specs.Counters.{counted_in, with_line, with_refusal};
 
     /// These counts and a line more, to which this was replied.
     pub(crate) fn with(self, reply: &Result<Option<Answer>, Refused<'_>>) -> Self
@@ -40,6 +40,27 @@ impl Counts {
         if reply.is_err() {
             counts.refused = counts.refused.saturating_add(1);
         }
+        counts
+    }
+
+    /// These counts and a line more, which was refused or not.
+    pub(crate) fn with_line(self, refused: bool) -> Self
+        ensures { result ≡ with_line refused self }
+    {
+        let mut counts = self;
+        counts.lines = counts.lines.saturating_add(1);
+        if refused {
+            counts.refused = counts.refused.saturating_add(1);
+        }
+        counts
+    }
+
+    /// These counts, where the last line was refused after all.
+    pub(crate) fn with_refusal(self) -> Self
+        ensures { result ≡ with_refusal self }
+    {
+        let mut counts = self;
+        counts.refused = counts.refused.saturating_add(1);
         counts
     }
 }
