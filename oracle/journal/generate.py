@@ -294,12 +294,19 @@ def everything(out, more):
     damaged(out)
 
 
+def summary(out):
+    """The line that the console prints at the end of its input."""
+    refused = sum(answer.startswith("refused") for answer in out.answers)
+    return f"{len(out.lines)} lines, 0 tips counted, {refused} refused, no safe tip"
+
+
 def main():
     paths = [word for word in sys.argv[1:] if word != "--long"]
     if len(paths) != 2:
         sys.exit(__doc__)
     out = Writer()
     everything(out, int("--long" in sys.argv))
+    out.answers.append(summary(out))
     for path, lines in zip(paths, (out.lines, out.answers)):
         with open(path, "w") as file:
             file.write("".join(line + "\n" for line in lines))

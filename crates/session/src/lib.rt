@@ -1,10 +1,12 @@
 //! A program over a console: standard input line by line, and a reply to each.
 #![tactic(auto)]
 
+use crate::files::Session;
 use anyhow::anyhow;
-use console::Console;
 use std::env;
 use std::io::{BufRead, BufReader};
+
+mod files;
 
 const HELP: &str = "Reads commands from standard input, one a line, and prints what each did.
 
@@ -35,23 +37,29 @@ assemble E SIGNER:SIGNATURE ..
 accepts-certificate E HEIGHT DIGEST CERTIFICATE
                      whether the certificate is accepted, or why it is not
 
+journal bytes AREAS, journal slots COUNT
+                     begins anew with this journal, which is empty and in memory
+journal file PATH AREAS, journal file PATH
+                     the same with a byte journal in a file, a new one or one that is there;
+                     what a line did is in the file before the line is answered
+append SECTION HEX   adds a record at the end of a section
+sync SECTION, sync-all
+                     makes a section durable, or every one
+prune SECTION        raises the bound, and drops the sections below
+read                 a line for each record: its section, its number there and its bytes
+power STORES, power on
+                     the power lasts for so many stores, or for ever
+cut                  the power goes between two operations
+damage PLACE BYTE, bytes FROM COUNT
+                     sets a byte of a byte journal, shows some
+
 A number is decimal and has at most 64 bits. Bytes are in hex, two digits each, and - stands for none. Empty lines and lines that begin with # are passed over.
 A line that cannot be done is answered by `refused`, and changes nothing.
 The last line printed is a summary.";
 
-/// Prints what a console replies to a line.
-fn answer(rt: &HostRuntime, console: &mut Console, line: &[u8]) -> anyhow::Result<()> {
-    match console.take(line) {
-        Ok(None) => {}
-        Ok(Some(answer)) => println!(rt; "{answer}")?,
-        Err(refused) => println!(rt; "{refused}")?,
-    }
-    Ok(())
-}
-
 /// Prints what a console has seen.
-fn end(rt: &HostRuntime, console: &Console) -> anyhow::Result<()> {
-    let summary = console.summary();
+fn end(rt: &HostRuntime, session: &Session) -> anyhow::Result<()> {
+    let summary = session.summary();
     println!(rt; "{summary}")?;
     Ok(())
 }
@@ -67,26 +75,26 @@ pub fn run(rt: &HostRuntime) -> anyhow::Result<()> {
         println!(rt; "{HELP}")?;
         return Ok(());
     }
-    let mut console = Console::new(rt.alloc());
+    let mut session = Session::new(rt.alloc());
     for line in BufReader::new(rt.alloc(), rt.stdin())?.split(rt.alloc(), b'\n') {
         let line = line?;
-        answer(rt, &mut console, &line)?;
+        session.answer(rt, &line)?;
     }
-    end(rt, &console)
+    end(rt, &session)
 }
 
 // kept: a loop beside that of `run`: one `fn lines(rt, each: impl FnMut(&[u8]) -> anyhow::Result<()>)` for both is longer than a loop
 /// Runs recorded sessions over standard input, one after the other: a line `new` ends one and begins the next.
 pub fn replay(rt: &HostRuntime) -> anyhow::Result<()> {
-    let mut console = Console::new(rt.alloc());
+    let mut session = Session::new(rt.alloc());
     for line in BufReader::new(rt.alloc(), rt.stdin())?.split(rt.alloc(), b'\n') {
         let line = line?;
         if line.as_slice() == b"new".as_slice() {
-            end(rt, &console)?;
-            console = Console::new(rt.alloc());
+            end(rt, &session)?;
+            session = Session::new(rt.alloc());
             continue;
         }
-        answer(rt, &mut console, &line)?;
+        session.answer(rt, &line)?;
     }
-    end(rt, &console)
+    end(rt, &session)
 }
