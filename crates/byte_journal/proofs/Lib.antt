@@ -2,7 +2,6 @@ pub mod Wholes
 pub mod Lookup
 pub mod Sieve
 pub mod Value
-pub mod Adding
 pub mod Grows
 pub mod Frees
 pub mod Steady

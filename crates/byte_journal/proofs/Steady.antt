@@ -1,7 +1,8 @@
 -- Writes make no overrun, and leave one that is there. Assumes nothing.
-use Rattle.std.proofs.Common.{◌≡◌, ℕ, ◌<◌, ◌≤◌, Bool, true, false, cond, leb, ◌⊎◌, List, [], ◌∷◌, ◌++◌, map, length, take, drop, Some, None, Option, sym, refl, ap, ◌∙◌, inl, inr, arith}
+use Rattle.std.proofs.Common.{◌≡◌, ℕ, ◌<◌, ◌≤◌, leb, ◌⊎◌, List, [], ◌∷◌, ◌++◌, map, length, take, drop, Some, None, Option, sym, refl, ap, ◌∙◌, inl, inr, arith}
 use Rattle.std.proofs.lemmas.List.{take-append-drop}
-use Rattle.std.proofs.lemmas.Bool.{cases_eq, cases_lt}
+use Rattle.std.proofs.lemmas.Bool.{cond_both, cases_eq, cases_lt}
+use Rattle.std.proofs.lemmas.Bool.Decides.{nat_tests}
 use Rattle.area.specs.Area.{Area, started, pushed}
 use Rattle.journal.specs.declared.places.Defect.{Defect}
 use Rattle.journal.specs.Log.{Bytes}
@@ -9,7 +10,7 @@ use Rattle.journal.specs.declared.places.Overrun.{Overrun}
 use Rattle.areas.specs.Plan.{areas_of}
 use Rattle.areas_reading.specs.Overruns.{behind, overrun_of, overrun_by, earlier, overrun_in, overrun}
 use Rattle.areas_writing.specs.Steps.{Swapped, Grown, Stayed, cleared, cleared_from}
-use Rattle.byte_journal.proofs.Grows.{Grew, grew_more, grew_first, areas_append, own_not}
+use Rattle.byte_journal.proofs.Grows.{Grew, grew_more, grew_first, areas_append}
 use Rattle.byte_journal.proofs.Frees.{freed-above, freed-below}
 
 -- a section with one area that has no fault, or with none, has no overrun
@@ -46,7 +47,7 @@ grew_same : (s : ℕ) (b : Area) (os ns : List (Option Area)) → Grew s os ns b
 grew_same s b os ns g f z n = go (cases_eq n s)
   where
     go : (n ≡ s) ⊎ (n ≡ s → ⊥) → overrun_of n (areas_of n ns) ≡ overrun_of n (areas_of n os)
-    go (inl q) = ap (λ k. overrun_of k (areas_of k ns)) q ∙ of_one s b (areas_of s ns) g.sole f ∙ sym (ap (λ k. overrun_of k (areas_of k os)) q ∙ z)
+    go (inl q) = let o = of_one s b (areas_of s ns) g.sole f in cc
     go (inr q) = ap (overrun_of n) (g.same n q)
 
 by_some : (all : List (Option Area)) (a : Area) (s : ℕ) → a.section ≡ s → overrun_by all (Some a) ≡ overrun_of s (areas_of s all)
@@ -79,12 +80,8 @@ stayed_steady s os ns (inr (none, w)) =
 
 earlier_none : (x y : Option Overrun) → earlier x y ≡ None → (x ≡ None) × (y ≡ None)
 earlier_none None y e = (refl, e)
-earlier_none (Some x) None e = let z : ◌≡◌ {A = ℕ} 0 1 = cc in absurd (omega arith)
-earlier_none (Some x) (Some y) e = absurd (go (leb x.place.section y.place.section) e)
-  where
-    go : (b : Bool) → cond b (Some x) (Some y) ≡ None → ⊥
-    go true f = let z : ◌≡◌ {A = ℕ} 0 1 = cc in omega arith
-    go false f = let z : ◌≡◌ {A = ℕ} 0 1 = cc in omega arith
+earlier_none (Some x) None e = cc
+earlier_none (Some x) (Some y) e = cond_both (leb x.place.section y.place.section) (Some x) (Some y) (λ o. o ≡ None → (◌≡◌ {A = Option Overrun} (Some x) None) × (◌≡◌ {A = Option Overrun} (Some y) None)) (λ _ f. cc) (λ _ f. cc) e
 
 -- a section of which there is an area
 in_each : (all xs : List (Option Area)) (n : ℕ) → overrun_in all xs ≡ None → (areas_of n xs ≡ []) ⊎ (overrun_of n (areas_of n all) ≡ None)
@@ -93,12 +90,9 @@ in_each all [] n e = inl refl
 in_each all (None ∷ xs) n e = in_each all xs n e
 in_each all (Some a ∷ xs) n e =
     let p = earlier_none (overrun_of a.section (areas_of a.section all)) (overrun_in all xs) e in
-    go (cases_eq n a.section) p.0 (in_each all xs n p.1)
-  where
-    go : (n ≡ a.section) ⊎ (n ≡ a.section → ⊥) → overrun_of a.section (areas_of a.section all) ≡ None → (areas_of n xs ≡ []) ⊎ (overrun_of n (areas_of n all) ≡ None) → (areas_of n (Some a ∷ xs) ≡ []) ⊎ (overrun_of n (areas_of n all) ≡ None)
-    go (inl q) z c = inr (ap (λ k. overrun_of k (areas_of k all)) q ∙ z)
-    go (inr q) z (inl c) = inl (own_not n a xs q ∙ c)
-    go (inr q) z (inr c) = inr c
+    let ih = in_each all xs n p.1 in
+    let z = p.0 in
+    grind (arith, nat_tests)
 
 none_each : (all : List (Option Area)) → overrun all ≡ None → (n : ℕ) → overrun_of n (areas_of n all) ≡ None
 unfolding overrun
