@@ -1,9 +1,14 @@
 //! What is true of a byte journal besides what is true of every journal.
-ghost use Rattle.byte_journal.specs.Laws.{FirstAreaShows, AppendsWhole, PrunesWhole, PruneFrees};
+ghost use Rattle.byte_journal.specs.Laws.{FirstAreaShows, FirstOverrun, AppendsWhole, PrunesWhole, PruneFrees};
 
 /// The records of a section are those of its first area that has a record.
 pub fn first_area_shows()
     ensures { FirstAreaShows }
+{}
+
+/// The first overrun is in the lowest section that has a defect or a second area.
+pub fn first_overrun_stands()
+    ensures { FirstOverrun }
 {}
 
 /// Wherever the power goes in an append, the new record is there whole or not at all, and all others stay.
