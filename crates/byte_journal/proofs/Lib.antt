@@ -1,4 +1,5 @@
 pub mod Wholes
+pub mod Layouts
 pub mod Lookup
 pub mod Sieve
 pub mod Value

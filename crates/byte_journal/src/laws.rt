@@ -1,5 +1,11 @@
 //! What is true of a byte journal besides what is true of every journal.
+ghost use Rattle.byte_journal.specs.Layout.{LayoutStands};
 ghost use Rattle.byte_journal.specs.Laws.{FirstAreaShows, FirstOverrun, AppendsWhole, PrunesWhole, PruneFrees};
+
+/// An area that is laid out as a mark, a section, records and an end mark reads as these.
+pub fn layout_stands()
+    ensures { LayoutStands }
+{}
 
 /// The records of a section are those of its first area that has a record.
 pub fn first_area_shows()

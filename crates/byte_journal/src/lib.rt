@@ -14,7 +14,9 @@ use journal::{Journal, Overrun, Place, ReadStop, Record, Stop};
 
 mod laws;
 
-pub use laws::{appends_whole, first_area_shows, first_overrun_stands, prune_frees, prunes_whole};
+pub use laws::{
+    appends_whole, first_area_shows, first_overrun_stands, layout_stands, prune_frees, prunes_whole,
+};
 
 /// A journal over lent bytes, in areas of 4,096. Each byte is one store.
 #[derive(Drop)]
