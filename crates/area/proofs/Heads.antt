@@ -1,9 +1,11 @@
 -- What a new area, one with a record more, and a freed one read as. Assumes nothing.
-use Rattle.std.proofs.Common.{◌≡◌, ℕ, ◌+◌, ◌-◌, ◌*◌, ◌/◌, ◌%◌, ◌<◌, ◌≤◌, true, ◌≢◌, List, [], ◌∷◌, ◌++◌, length, get_or, take, drop, set, min, eqb, leb, Some, None, Ok, Err, Option, Result, sym, refl, ap, ◌∙◌, subst, arith}
+use Rattle.std.proofs.Common.{◌≡◌, ℕ, ◌+◌, ◌-◌, ◌/◌, ◌%◌, ◌<◌, ◌≤◌, true, ◌≢◌, List, [], ◌∷◌, ◌++◌, length, get_or, take, drop, set, min, eqb, leb, Some, None, Ok, Err, Option, Result, sym, refl, ap, ◌∙◌, subst, arith}
 use Rattle.std.proofs.lemmas.List.{append_assoc, length-take-le, length-set, get_or-drop, get_or_at, get_or-append_right, get_or-set_other, get_or-set_same, drop-set-lt, drop_at, drop-drop, take_at, ext_get_or}
 use Rattle.area.specs.Area.{size, body, records_at, extent, records_of, end_of, section_of, defect_of, area_of, read, fits, started, pushed}
-use Rattle.area.specs.Edits.{Kept, put, framed, added, eight, begun}
-use Rattle.area.proofs.Steps.{holds-from, none_by_mark, at_more, at_none, of_used, end-past}
+use Rattle.std.proofs.lemmas.Nat.{from_be_bytes-to_be_bytes_8}
+use Rattle.std.specs.Int.{w64, to_be_bytes}
+use Rattle.area.specs.Edits.{Kept, put, framed, added, begun}
+use Rattle.area.proofs.Steps.{size_is, holds-from, none_by_mark, at_more, at_none, of_used, end-past}
 use Rattle.area.proofs.Marks.{defect_used, defect_none, read_used, read-free}
 use Rattle.area.proofs.Puts.{kept_refl, kept_put, length-framed, length-put}
 use Rattle.area.proofs.Onward.{area_of_lem, section-same, end-onward, records-onward, kept_read}
@@ -12,10 +14,6 @@ use Rattle.std.proofs.lemmas.Bool.{and_from, eq-eqb, le-leb}
 use Rattle.journal.specs.declared.stops.Stop.{Stop}
 use Rattle.journal.specs.declared.stops.Stop.TheVariants.{Full, Pruned, Off}
 use Rattle.area.specs.Writes.{Stored, Appended, Started, Freed}
-
--- the eight bytes of a number give it back
-pub eight-back : (n : ℕ) → n < 18446744073709551616 → n / 72057594037927936 % 256 * 72057594037927936 + n / 281474976710656 % 256 * 281474976710656 + n / 1099511627776 % 256 * 1099511627776 + n / 4294967296 % 256 * 4294967296 + n / 16777216 % 256 * 16777216 + n / 65536 % 256 * 65536 + n / 256 % 256 * 256 + n % 256 ≡ n
-eight-back n h = omega arith
 
 -- a byte of what was put
 pub get_d_put : (at j : ℕ) (bs out : List ℕ) → at ≤ length out → get_or (put at bs out) (at + j) 0 ≡ get_or (bs ++ drop (at + length bs) out) j 0
@@ -28,40 +26,38 @@ get_d_put at j bs out h =
     ∙ ap (λ i. get_or (bs ++ drop (at + length bs) out) i 0) z
 
 module _ (bs : List ℕ) (s : ℕ) (long : 9 < length bs) where
-  head-len : length (put 1 (eight s) bs) ≡ length bs
-  unfolding eight
-  head-len = length-put 1 (eight s) bs (omega arith)
+  head-len : length (put 1 (to_be_bytes w64 s) bs) ≡ length bs
+  head-len = length-put 1 (to_be_bytes w64 s) bs (omega arith)
 
-  head_byte : (j : ℕ) → j < 8 → get_or (begun s bs) (1 + j) 0 ≡ get_or (eight s ++ drop (1 + length (eight s)) bs) j 0
+  head_byte : (j : ℕ) → j < 8 → get_or (begun s bs) (1 + j) 0 ≡ get_or (to_be_bytes w64 s ++ drop (1 + length (to_be_bytes w64 s)) bs) j 0
   unfolding begun
   head_byte j h =
       let ne : 1 + j ≢ 0 = (λ q. omega arith) in
       let nf : 1 + j ≢ 9 = (λ q. omega arith) in
-      get_or-set_other (set (put 1 (eight s) bs) 9 0) 0 (1 + j) 1 0 ne ∙ get_or-set_other (put 1 (eight s) bs) 9 (1 + j) 0 0 nf ∙ get_d_put 1 j (eight s) bs (omega arith)
+      get_or-set_other (set (put 1 (to_be_bytes w64 s) bs) 9 0) 0 (1 + j) 1 0 ne ∙ get_or-set_other (put 1 (to_be_bytes w64 s) bs) 9 (1 + j) 0 0 nf ∙ get_d_put 1 j (to_be_bytes w64 s) bs (omega arith)
 
   head_mark : get_or (begun s bs) 0 0 ≡ 1
   unfolding begun
-  head_mark = get_or-set_same (set (put 1 (eight s) bs) 9 0) 0 1 0 (simp (length-set, head-len) (omega arith))
+  head_mark = get_or-set_same (set (put 1 (to_be_bytes w64 s) bs) 9 0) 0 1 0 (simp (length-set, head-len) (omega arith))
 
   head-end : get_or (begun s bs) 9 0 ≡ 0
   unfolding begun
   head-end =
       let ne : ◌≢◌ {A = ℕ} 9 0 = (λ q. omega arith) in
-      get_or-set_other (set (put 1 (eight s) bs) 9 0) 0 9 1 0 ne ∙ get_or-set_same (put 1 (eight s) bs) 9 0 0 (simp head-len (omega arith))
+      get_or-set_other (set (put 1 (to_be_bytes w64 s) bs) 9 0) 0 9 1 0 ne ∙ get_or-set_same (put 1 (to_be_bytes w64 s) bs) 9 0 0 (simp head-len (omega arith))
 
   head-section : s < 18446744073709551616 → section_of (begun s bs) ≡ s
-  unfolding section_of eight
+  unfolding section_of
   head-section h =
-      let a = head_byte 0 (omega arith) in
-      let b = head_byte 1 (omega arith) in
-      let c = head_byte 2 (omega arith) in
-      let d = head_byte 3 (omega arith) in
-      let e = head_byte 4 (omega arith) in
-      let f = head_byte 5 (omega arith) in
-      let g = head_byte 6 (omega arith) in
-      let i = head_byte 7 (omega arith) in
-      let w = eight-back s h in
-      simp (a, b, c, d, e, f, g, i) w
+      let a = get_or-drop 1 (begun s bs) 0 0 ∙ head_byte 0 (omega arith) in
+      let b = get_or-drop 1 (begun s bs) 1 0 ∙ head_byte 1 (omega arith) in
+      let c = get_or-drop 1 (begun s bs) 2 0 ∙ head_byte 2 (omega arith) in
+      let d = get_or-drop 1 (begun s bs) 3 0 ∙ head_byte 3 (omega arith) in
+      let e = get_or-drop 1 (begun s bs) 4 0 ∙ head_byte 4 (omega arith) in
+      let f = get_or-drop 1 (begun s bs) 5 0 ∙ head_byte 5 (omega arith) in
+      let g = get_or-drop 1 (begun s bs) 6 0 ∙ head_byte 6 (omega arith) in
+      let i = get_or-drop 1 (begun s bs) 7 0 ∙ head_byte 7 (omega arith) in
+      simp (a, b, c, d, e, f, g, i) (from_be_bytes-to_be_bytes_8 s h)
 
   pub begun-read : s < 18446744073709551616 → read (begun s bs) ≡ Some (started s)
   unfolding area_of started end_of extent
@@ -109,7 +105,7 @@ module _ (bs new : List ℕ) (r : Room bs (length new)) where
       let lt : length (take (e + 1) bs) ≡ e + 1 = length-take-le (e + 1) bs (omega (arith, r.inside)) in
       drop-set-lt (e + 1) (put (e + 1) (framed new) bs) e 1 (omega arith) ∙ ap (drop (e + 1)) (append_assoc (take (e + 1) bs) (framed new) rest) ∙ drop_at (take (e + 1) bs) (framed new ++ rest) (e + 1) lt
 
-  more_high : get_or (added (end_of bs) new bs) (end_of bs + 1) 0 ≡ length new / 256
+  more_high : get_or (added (end_of bs) new bs) (end_of bs + 1) 0 ≡ length new / 256 % 256
   unfolding framed
   more_high =
       let c = added (end_of bs) new bs in
@@ -124,8 +120,7 @@ module _ (bs new : List ℕ) (r : Room bs (length new)) where
       ap (λ i. get_or c i 0) z ∙ sym (get_or-drop (end_of bs + 1) c 1 0) ∙ ap (λ l. get_or l 1 0) more_rest
 
   more-size : size (added (end_of bs) new bs) (end_of bs) ≡ length new
-  unfolding size
-  more-size = omega (arith, more_high, more-low)
+  more-size = let n = r.short in omega (arith, size_is (added (end_of bs) new bs) (end_of bs), more_high, more-low)
 
   more_tail : drop (end_of bs + 3) (added (end_of bs) new bs) ≡ new ++ 0 ∷ drop (end_of bs + 1 + length (framed new)) bs
   unfolding framed

@@ -5,12 +5,11 @@ use Rattle.std.proofs.lemmas.Bool.{cases_Bool}
 use Rattle.journal.specs.declared.places.Defect.{Defect}
 use Rattle.area.specs.Area.{size, holds, body, records_at, extent, records_of, end_of, section_of, defect_of, area_of, read, Area}
 use Rattle.area.specs.Edits.{Kept}
-use Rattle.area.proofs.Steps.{holds-from, whole_from, none_by_mark, at_more, at_none, extent-more, extent-append, of_used, end-past}
+use Rattle.area.proofs.Steps.{size_is, holds-from, whole_from, none_by_mark, at_more, at_none, extent-more, extent-append, of_used, end-past}
 use Rattle.area.proofs.Marks.{defect_used, defect_none, read_used}
 
 size_same : (bs cs : List ℕ) (at : ℕ) → get_or cs (at + 1) 0 ≡ get_or bs (at + 1) 0 → get_or cs (at + 2) 0 ≡ get_or bs (at + 2) 0 → size cs at ≡ size bs at
-unfolding size
-size_same bs cs at p q = cc
+size_same bs cs at p q = let x = size_is bs at in let y = size_is cs at in cc
 
 body_same : (bs cs : List ℕ) (at : ℕ) → size cs at ≡ size bs at → length cs ≡ length bs → at + 3 + size bs at ≤ length bs → ((k : ℕ) → k < at + 3 + size bs at → get_or cs k 0 ≡ get_or bs k 0) → body cs at ≡ body bs at
 unfolding body
@@ -78,14 +77,15 @@ area_of_lem p q r = cc
 pub section-same : (bs cs : List ℕ) → ((k : ℕ) → k < 9 → get_or cs k 0 ≡ get_or bs k 0) → section_of cs ≡ section_of bs
 unfolding section_of
 section-same bs cs same =
-    let a = same 1 (omega arith) in
-    let b = same 2 (omega arith) in
-    let c = same 3 (omega arith) in
-    let d = same 4 (omega arith) in
-    let e = same 5 (omega arith) in
-    let f = same 6 (omega arith) in
-    let g = same 7 (omega arith) in
-    let h = same 8 (omega arith) in
+    let byte : (j : ℕ) → j < 8 → get_or (drop 1 cs) j 0 ≡ get_or (drop 1 bs) j 0 = λ j h. get_or-drop 1 cs j 0 ∙ same (1 + j) (omega arith) ∙ sym (get_or-drop 1 bs j 0) in
+    let a = byte 0 (omega arith) in
+    let b = byte 1 (omega arith) in
+    let c = byte 2 (omega arith) in
+    let d = byte 3 (omega arith) in
+    let e = byte 4 (omega arith) in
+    let f = byte 5 (omega arith) in
+    let g = byte 6 (omega arith) in
+    let h = byte 7 (omega arith) in
     cc
 
 -- an area in use with one record at its end, or none: what stands there and behind it makes up the rest

@@ -1,6 +1,7 @@
 -- What is written at a place, and what it leaves. Assumes nothing.
-use Rattle.std.proofs.Common.{◌≡◌, ℕ, ◌+◌, ◌-◌, ◌/◌, ◌%◌, ◌<◌, ◌≤◌, ◌≢◌, List, [], ◌∷◌, ◌++◌, length, get_or, take, drop, set, sym, refl, ap, ◌∙◌, subst, arith}
+use Rattle.std.proofs.Common.{◌≡◌, ℕ, ◌+◌, ◌-◌, ◌<◌, ◌≤◌, ◌≢◌, List, [], ◌∷◌, ◌++◌, length, get_or, take, drop, set, sym, refl, ap, ◌∙◌, subst, arith}
 use Rattle.std.proofs.lemmas.List.{take-append-drop, append_assoc, append-nil, set-append_right, length-take-le, length-append, drop_more, length-drop, get_or-set_other, length-set, get_or_append_left, get_or-take, drop_at, take_at, drop-drop}
+use Rattle.std.specs.Int.{w16, to_be_bytes}
 use Rattle.area.specs.Edits.{put, Kept, framed}
 
 pub put_none : (at : ℕ) (out : List ℕ) → put at [] out ≡ out
@@ -77,10 +78,6 @@ pub length-framed : (body : List ℕ) → length (framed body) ≡ length body +
 unfolding framed
 length-framed body = simp length-append (omega arith)
 
--- the two bytes of a record's length
-pub two_bytes : (n : ℕ) → n ≤ 1068 → ◌≡◌ {A = List ℕ} (n / 256 % 256 ∷ n % 256 ∷ []) (n / 256 ∷ n % 256 ∷ [])
-two_bytes n h = let z : n / 256 % 256 ≡ n / 256 = omega arith in ap (λ m. m ∷ n % 256 ∷ []) z
-
 -- a frame in three parts
 module _ (old a1 : List ℕ) (e hi lo : ℕ) (room : e + 3 ≤ length old) (w1 : a1 ≡ put (e + 1) (hi ∷ lo ∷ []) old) where
   pub head-kept : Kept (e + 1) old a1
@@ -89,10 +86,10 @@ module _ (old a1 : List ℕ) (e hi lo : ℕ) (room : e + 3 ≤ length old) (w1 :
   pub body_kept : (g a2 : List ℕ) → e + 3 + length g ≤ length old → a2 ≡ put (e + 3) g a1 → Kept (e + 1) old a2
   body_kept g a2 fits w2 = subst (λ (a : List ℕ). Kept (e + 1) old a) (sym w2) (kept_put (e + 1) (e + 3) g old a1 (omega arith) (omega (arith, head-kept.len)) head-kept)
 
-pub frame_whole : (old a1 a2 body : List ℕ) (e : ℕ) → e + 3 + length body < length old → a1 ≡ put (e + 1) (length body / 256 ∷ length body % 256 ∷ []) old → a2 ≡ put (e + 3) body a1 → set a2 (e + 3 + length body) 0 ≡ put (e + 1) (framed body) old
+pub frame_whole : (old a1 a2 body : List ℕ) (e : ℕ) → e + 3 + length body < length old → a1 ≡ put (e + 1) (to_be_bytes w16 (length body)) old → a2 ≡ put (e + 3) body a1 → set a2 (e + 3 + length body) 0 ≡ put (e + 1) (framed body) old
 unfolding framed
 frame_whole old a1 a2 body e fits w1 w2 =
-    let hl = length body / 256 ∷ length body % 256 ∷ [] in
+    let hl = to_be_bytes w16 (length body) in
     let k : e + 3 ≡ e + 1 + 2 = omega arith in
     let x : a2 ≡ put (e + 1) (hl ++ body) old = w2 ∙ ap (λ a. put (e + 3) body a) w1 ∙ ap (λ i. put i body (put (e + 1) hl old)) k ∙ put-put (e + 1) hl body old (omega arith) in
     let n : e + 3 + length body ≡ e + 1 + length (hl ++ body) = omega arith in

@@ -1,8 +1,18 @@
 -- How the records of an area follow one another. Assumes nothing.
-use Rattle.std.proofs.Common.{◌≡◌, ℕ, zero, suc, ◌+◌, ◌<◌, ◌≤◌, true, false, ◌⊎◌, List, [], ◌∷◌, ◌++◌, length, get_or, drop, sym, refl, ap, ◌∙◌, inl, inr, arith}
-use Rattle.std.proofs.lemmas.List.{length-take-le, length-drop, get_or_past}
+use Rattle.std.proofs.Common.{◌≡◌, ℕ, zero, suc, ◌+◌, ◌*◌, ◌<◌, ◌≤◌, true, false, ◌⊎◌, List, [], ◌∷◌, ◌++◌, length, get_or, drop, sym, refl, ap, ◌∙◌, inl, inr, arith}
+use Rattle.std.proofs.lemmas.List.{length-take-le, length-drop, get_or-drop, get_or_past}
 use Rattle.std.proofs.lemmas.Bool.{and_from, and_parts, and_left, eq-eqb, ne_eqb, eqb-true, le-leb, leb-true, cond-true, cond-false, cases_Bool, cases_eq, cases_lt}
 use Rattle.area.specs.Area.{size, holds, body, records_by, records_at, extent, records_of, end_of}
+
+-- a record's length from its two bytes
+pub size_is : (bs : List ℕ) (at : ℕ) → size bs at ≡ get_or bs (at + 1) 0 * 256 + get_or bs (at + 2) 0
+unfolding size
+size_is bs at =
+    let z : at + 1 + 0 ≡ at + 1 = omega arith in
+    let t : at + 1 + 1 ≡ at + 2 = omega arith in
+    let a = get_or-drop (at + 1) bs 0 0 ∙ ap (λ k. get_or bs k 0) z in
+    let b = get_or-drop (at + 1) bs 1 0 ∙ ap (λ k. get_or bs k 0) t in
+    ap (λ x. x * 256 + get_or (drop (at + 1) bs) 1 0) a ∙ ap (λ x. get_or bs (at + 1) 0 * 256 + x) b
 
 -- a whole record, from its three tests, and back
 

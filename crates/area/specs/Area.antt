@@ -1,11 +1,12 @@
 -- What the bytes of one area mean: a mark, a section in eight bytes, and then the records. Past the last byte every byte counts as 0. Assumes nothing.
-use Rattle.std.specs.Prelude.{ℕ, zero, suc, ◌+◌, ◌*◌, Bool, cond, not, ◌&&◌, List, [], ◌∷◌, ◌++◌, length, take, drop, is_some, Some, None, Option, ◌==◌, nat_le, nat_lt, slice_index}
+use Rattle.std.specs.Prelude.{ℕ, zero, suc, ◌+◌, Bool, cond, not, ◌&&◌, List, [], ◌∷◌, ◌++◌, length, take, drop, is_some, Some, None, Option, ◌==◌, nat_le, nat_lt, slice_index}
+use Rattle.std.specs.Int.{w16, w64, from_be_bytes}
 use Rattle.journal.specs.declared.places.Defect.{Defect}
 use Rattle.journal.specs.declared.places.Defect.TheVariants.{Mark, Length}
 
--- the length that stands behind a record's mark, the high byte first
+-- the length that stands behind a record's mark
 unfoldable pub size : List ℕ → ℕ → ℕ
-size bs at = slice_index bs (at + 1) * 256 + slice_index bs (at + 2)
+size bs at = from_be_bytes w16 (drop (at + 1) bs)
 
 -- whether a whole record stands at a place: its mark is 1, its length at most 1,068, and its body inside the area
 unfoldable pub holds : List ℕ → ℕ → Bool
@@ -29,10 +30,9 @@ unfoldable pub extent : List (List ℕ) → ℕ
 extent [] = 0
 extent (r ∷ rs) = 3 + length r + extent rs
 
--- the section, the high byte first
+-- the section that stands behind an area's mark
 unfoldable pub section_of : List ℕ → ℕ
-section_of bs =
-    slice_index bs 1 * 72057594037927936 + slice_index bs 2 * 281474976710656 + slice_index bs 3 * 1099511627776 + slice_index bs 4 * 4294967296 + slice_index bs 5 * 16777216 + slice_index bs 6 * 65536 + slice_index bs 7 * 256 + slice_index bs 8
+section_of bs = from_be_bytes w64 (drop 1 bs)
 
 -- what an area in use reads as: its section, its records, and the defect that stands behind them, if any
 pub record Area : Type 0 where

@@ -1,5 +1,6 @@
 -- What is written into an area. Assumes nothing.
-use Rattle.std.specs.Prelude.{◌≡◌, ℕ, ◌+◌, ◌/◌, ◌%◌, ◌<◌, List, [], ◌∷◌, ◌++◌, length, take, drop, slice_index, slice_set}
+use Rattle.std.specs.Prelude.{◌≡◌, ℕ, ◌+◌, ◌<◌, List, [], ◌∷◌, ◌++◌, length, take, drop, slice_index, slice_set}
+use Rattle.std.specs.Int.{w16, w64, to_be_bytes}
 
 -- these bytes in the place of as many from `at` on
 unfoldable pub put : ℕ → List ℕ → List ℕ → List ℕ
@@ -7,7 +8,7 @@ put at bs out = take at out ++ bs ++ drop (at + length bs) out
 
 -- what follows the mark of a record: its length, its body and the next end mark
 unfoldable pub framed : List ℕ → List ℕ
-framed body = length body / 256 ∷ length body % 256 ∷ (body ++ 0 ∷ [])
+framed body = to_be_bytes w16 (length body) ++ (body ++ 0 ∷ [])
 
 -- a record at a place: what follows its mark, and its mark
 unfoldable pub added : ℕ → List ℕ → List ℕ → List ℕ
@@ -18,11 +19,6 @@ pub record Kept (place : ℕ) (old new : List ℕ) : Type 0 where
   pub len : length new ≡ length old
   pub same : (k : ℕ) → k < place → slice_index new k ≡ slice_index old k
 
--- a number below 2^64 in eight bytes, the high one first
-unfoldable pub eight : ℕ → List ℕ
-eight n =
-    (n / 72057594037927936 % 256) ∷ (n / 281474976710656 % 256) ∷ (n / 1099511627776 % 256) ∷ (n / 4294967296 % 256) ∷ (n / 16777216 % 256) ∷ (n / 65536 % 256) ∷ (n / 256 % 256) ∷ (n % 256) ∷ []
-
 -- an area newly in use: its section, its first end mark, and its mark
 unfoldable pub begun : ℕ → List ℕ → List ℕ
-begun section bs = slice_set (slice_set (put 1 (eight section) bs) 9 0) 0 1
+begun section bs = slice_set (slice_set (put 1 (to_be_bytes w64 section) bs) 9 0) 0 1

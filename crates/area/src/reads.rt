@@ -63,13 +63,12 @@ pub fn defect(area: &[u8]) -> Option<Defect>
 }
 
 // The place for the mark of one record more, of `len` bytes; `None` where it has no room.
-#[tactic(auto, using(crate::proofs::Steps::end_inside), unfolding(crate::specs::Area::fits, crate::specs::Area::area_of, crate::specs::Area::end_of))]
+#[tactic(auto, using(crate::proofs::Steps::end_inside), unfolding(crate::specs::Area::fits, crate::specs::Area::area_of, crate::specs::Area::end_of, crate::specs::Area::defect_of, crate::specs::Area::defect_at))]
 pub(crate) fn room(area: &[u8], len: usize) -> Option<usize>
     ensures { MatchOption result (room_in area.now len ≡ false) (λ e. (room_in area.now len ≡ true) × (e ≡ end_of area.now)) }
 {
-    if defect(area).is_some() || len > MAX_RECORD {
-        return None;
-    }
     let end = end(area);
-    (end + PREFIX + len < area.len()).then_some(end)
+    let is_whole = byte(area, 0) == MARK && byte(area, end) == NO_MARK;
+    let has_room = len <= MAX_RECORD && end + PREFIX + len < area.len();
+    (is_whole && has_room).then_some(end)
 }

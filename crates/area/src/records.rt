@@ -26,7 +26,7 @@ pub(crate) fn byte(area: &[u8], at: usize) -> u8
 }
 
 // The length behind the mark of a record at `at`.
-#[tactic(auto, unfolding(crate::specs::Area::size))]
+#[tactic(auto, using(crate::proofs::Steps::size_is))]
 fn length_at(area: &[u8], at: usize) -> usize
     requires { slice_index area.now at ≡ 1 }
     ensures { result ≡ size area.now at }

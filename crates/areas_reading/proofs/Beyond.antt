@@ -1,14 +1,16 @@
 -- Where an overrun is found. Assumes nothing.
-use Rattle.std.proofs.Common.{◌≡◌, ℕ, ◌+◌, ◌<◌, ◌≤◌, List, [], ◌∷◌, length, get_or, drop, Some, None, Option, sym, refl, ap, ◌∙◌, arith}
-use Rattle.std.proofs.lemmas.List.{drop_more, drop_all}
+use Rattle.std.proofs.Common.{◌≡◌, ℕ, List, [], ◌∷◌, length, Bool, true, false, cond, Some, None, Option, sym, refl, ap, ◌∙◌, arith}
 use Rattle.std.specs.Option.{option_map}
+use Rattle.std.specs.List.{filter_map, cons_option, reduce}
+use Rattle.areas_reading.proofs.Keyed.{least, low, reduce_least, fold_low}
 use Rattle.area.specs.Area.{Area as Held, read, area_of, defect_of}
 use Rattle.journal.specs.declared.places.Defect.{Defect}
 use Rattle.area.proofs.Marks.{read_is}
 use Rattle.journal.specs.declared.places.Defect.{Defect}
 use Rattle.journal.specs.declared.places.Defect.TheVariants.{Area as SecondArea}
+use Rattle.journal.specs.declared.places.Overrun.{Overrun}
 use Rattle.areas.specs.Plan.{areas_of}
-use Rattle.areas_reading.specs.Overruns.{overrun_at, behind, overrun_of, overrun_by, earlier, overrun_in}
+use Rattle.areas_reading.specs.Overruns.{overrun_at, behind, overrun_of, overrun_by, earlier, overrun_in, overrun}
 
 pub defect_is : (bs : List ℕ) (a : Held) → read bs ≡ Some a → a.defect ≡ defect_of bs
 unfolding area_of
@@ -42,10 +44,22 @@ unfolding overrun_by
 by_some all None s e = let z : ◌≡◌ {A = ℕ} 0 1 = cc in absurd (omega arith)
 by_some all (Some a) s e = let z : a.section ≡ s = cc in ap (λ t. overrun_of t (areas_of t all)) (sym z)
 
-pub in_none : (all os : List (Option Held)) (i : ℕ) → length os ≤ i → None ≡ overrun_in all (drop i os)
-unfolding overrun_in
-in_none all os i h = sym (ap (overrun_in all) (drop_all i os h))
+-- comparing the overruns one after the other gives the first
 
-pub in_more : (all os : List (Option Held)) (i : ℕ) → i < length os → overrun_in all (drop i os) ≡ earlier (overrun_by all (get_or os i None)) (overrun_in all (drop (i + 1) os))
+one_of : (b : Bool) (x y : Overrun) → Some (cond b x y) ≡ cond b (Some x) (Some y)
+one_of true x y = refl
+one_of false x y = refl
+
+in_front : (o : Option Overrun) (xs : List Overrun) → reduce (low (λ x. x.place.section)) (cons_option o xs) ≡ earlier o (reduce (low (λ x. x.place.section)) xs)
+in_front None xs = refl
+in_front (Some x) [] = refl
+in_front (Some x) (y ∷ ys) = ap Some (fold_low (λ x. x.place.section) x y ys) ∙ one_of _ x _
+
+first_of : (all os : List (Option Held)) → reduce (low (λ x. x.place.section)) (filter_map (overrun_by all) os) ≡ overrun_in all os
 unfolding overrun_in
-in_more all os i h = ap (overrun_in all) (drop_more os i None h)
+first_of all [] = refl
+first_of all (o ∷ os) = in_front (overrun_by all o) (filter_map (overrun_by all) os) ∙ ap (earlier (overrun_by all o)) (first_of all os)
+
+pub first_is : (all : List (Option Held)) → reduce (least (λ x. x.place.section)) (filter_map (overrun_by all) all) ≡ overrun all
+unfolding overrun
+first_is all = reduce_least (λ x. x.place.section) (filter_map (overrun_by all) all) ∙ first_of all all

@@ -1,3 +1,4 @@
 pub mod Beyond
 pub mod Lows
 pub mod Shows
+pub mod Keyed

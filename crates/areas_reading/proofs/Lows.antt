@@ -1,13 +1,14 @@
 -- The lowest section of which an area has a record. Assumes nothing.
-use Rattle.std.proofs.Common.{◌≡◌, ℕ, Bool, true, false, cond, ◌&&◌, eqb, leb, min, ◌≢◌, ◌⊎◌, List, [], ◌∷◌, Some, None, Option, sym, refl, ap, ◌∙◌, subst, inl, inr, arith}
-use Rattle.std.proofs.lemmas.Bool.{cond-true, cond-false, cases_Bool, cases_eq, leb-true, leb-false, and_from, and_parts, and_left, and_right, eq-eqb, ne_eqb}
+use Rattle.std.proofs.Common.{◌≡◌, ℕ, suc, ◌+◌, Bool, true, false, cond, ◌&&◌, leb, get_or, ◌⊎◌, List, [], ◌∷◌, Some, None, Option, sym, refl, ap, ◌∙◌, subst, inl, inr, arith}
+use Rattle.std.proofs.lemmas.Bool.{cond-true, cond-false, cases_Bool}
 use Rattle.std.specs.Bool.{then_some}
 use Rattle.std.specs.Option.{option_map}
-use Rattle.std.specs.List.{filter_map, fold, reduce, slice_get}
+use Rattle.std.specs.List.{cons_option, enumerate_from, filter_map, reduce}
 use Rattle.area.specs.Area.{Area, read, records_of}
-use Rattle.areas.specs.Plan.{some, shows, records_in, above, candidate, lower, lowest}
-use Rattle.areas_reading.proofs.Shows.{records_is, in_pass, in_here}
-use Rattle.areas_reading.specs.Next.{placed_at, leading}
+use Rattle.areas.specs.Plan.{some, above, candidate, lower, lowest}
+use Rattle.areas_reading.proofs.Shows.{records_is}
+use Rattle.areas_reading.specs.Next.{Points}
+use Rattle.areas_reading.proofs.Keyed.{least, low as nearer, reduce_least, fold_low}
 
 pub candidate-free : (low : Option ℕ) (o : Option Area) → option_map (λ a. a.section) o ≡ None → candidate low o ≡ None
 unfolding candidate
@@ -32,123 +33,73 @@ pub candidate-above : (low : Option ℕ) (bs : List ℕ) (s : ℕ) → option_ma
 candidate-above low bs s h a =
     chosen (some (records_of bs)) s ∙ ap (λ b. cond (b && some (records_of bs)) (Some s) None) (sym a) ∙ sym (candidate_used low bs s h)
 
-pub plain : (o : Option ℕ) → o ≡ option_map (λ x. x) o
-plain None = refl
-plain (Some x) = refl
+-- one area more in front, the i-th
 
--- one area more in front
+abbrev pub found : Option ℕ → ℕ × Option Area → Option (ℕ × ℕ)
+found low p = option_map (λ s. (s, p.0)) (candidate low p.1)
 
-lowest_pass : (low : Option ℕ) (o : Option Area) (os : List (Option Area)) → candidate low o ≡ None → lowest low (o ∷ os) ≡ lowest low os
-unfolding candidate lowest
-lowest_pass low None os e = refl
-lowest_pass low (Some a) os e = go (cases_Bool (above low a.section && some a.records))
-  where
-    go : ((above low a.section && some a.records) ≡ true) ⊎ ((above low a.section && some a.records) ≡ false) → cond (above low a.section && some a.records) (Some (lower a (lowest low os))) (lowest low os) ≡ lowest low os
-    go (inl h) = let f : Some a.section ≡ None = sym (cond-true _ (Some a.section) None h) ∙ e in let z : ◌≡◌ {A = ℕ} 0 1 = cc in absurd (omega arith)
-    go (inr h) = cond-false _ _ _ h
+abbrev key : ℕ × ℕ → ℕ
+key p = p.0
 
--- the least of some numbers, whichever is compared first
-fold_min : (x y : ℕ) (ys : List ℕ) → fold min (min x y) ys ≡ min x (fold min y ys)
-fold_min x y [] = refl
-fold_min x y (z ∷ zs) =
-    let e : min (min x y) z ≡ min x (min y z) = omega arith in
-    ap (λ m. fold min m zs) e ∙ fold_min x (min y z) zs
+-- what the areas from the i-th on say
+abbrev PointsFrom : ℕ → Option (ℕ × ℕ) → Option Area → List (Option Area) → Type 0
+PointsFrom i None o os = o ≡ None
+PointsFrom i (Some p) o os = (a : Area) × (o ≡ Some a) × (p.0 ≡ a.section) × ((k : ℕ) × (p.1 ≡ i + k) × (get_or os k None ≡ Some a))
 
-least_of : ℕ → Option ℕ → ℕ
-least_of x None = x
-least_of x (Some y) = min x y
+behind : (i : ℕ) (r : Option (ℕ × ℕ)) (x o : Option Area) (os : List (Option Area)) → PointsFrom (i + 1) r o os → PointsFrom i r o (x ∷ os)
+behind i None x o os w = w
+behind i (Some p) x o os w = (w.0, w.1, w.2, (suc w.3.0, omega (arith, w.3.1), w.3.2))
 
-reduce_more : (x : ℕ) (xs : List ℕ) → reduce min (x ∷ xs) ≡ Some (least_of x (reduce min xs))
-unfolding least_of
+or_low : ℕ × ℕ → Option (ℕ × ℕ) → ℕ × ℕ
+or_low x None = x
+or_low x (Some y) = nearer key x y
+
+reduce_more : (x : ℕ × ℕ) (xs : List (ℕ × ℕ)) → reduce (nearer key) (x ∷ xs) ≡ Some (or_low x (reduce (nearer key) xs))
+unfolding or_low
 reduce_more x [] = refl
-reduce_more x (y ∷ ys) = ap Some (fold_min x y ys)
+reduce_more x (y ∷ ys) = ap Some (fold_low key x y ys)
 
-lower_section : (a : Area) (o : Option Area) → (lower a o).section ≡ least_of a.section (option_map (λ b. b.section) o)
-unfolding lower least_of
-lower_section a None = refl
-lower_section a (Some b) = go (cases_Bool (leb a.section b.section))
+in_front : (i : ℕ) (a : Area) (r : Option (ℕ × ℕ)) (o : Option Area) (os : List (Option Area)) → PointsFrom (i + 1) r o os → PointsFrom i (Some (or_low (a.section, i) r)) (Some (lower a o)) (Some a ∷ os)
+unfolding lower or_low
+in_front i a None o os w = (a, ap (λ x. Some (lower a x)) w, refl, (0, omega arith, refl))
+in_front i a (Some p) o os w = go (cases_Bool (leb a.section p.0))
   where
-    go : (leb a.section b.section ≡ true) ⊎ (leb a.section b.section ≡ false) → (cond (leb a.section b.section) a b).section ≡ min a.section b.section
-    go (inl h) = simp h (omega (arith, leb-true _ _ h))
-    go (inr h) = simp h (omega (arith, leb-false _ _ h))
+    go : (leb a.section p.0 ≡ true) ⊎ (leb a.section p.0 ≡ false) → PointsFrom i (Some (cond (leb a.section p.0) (a.section, i) p)) (Some (lower a o)) (Some a ∷ os)
+    go (inl h) =
+        let t : leb a.section w.0.section ≡ true = ap (leb a.section) (sym w.2) ∙ h in
+        let e : lower a o ≡ a = ap (lower a) w.1 ∙ cond-true _ _ _ t in
+        subst (λ (q : ℕ × ℕ). PointsFrom i (Some q) (Some (lower a o)) (Some a ∷ os)) (sym (cond-true _ _ _ h)) (a, ap Some e, refl, (0, omega arith, refl))
+    go (inr h) =
+        let t : leb a.section w.0.section ≡ false = ap (leb a.section) (sym w.2) ∙ h in
+        let e : lower a o ≡ w.0 = ap (lower a) w.1 ∙ cond-false _ _ _ t in
+        subst (λ (q : ℕ × ℕ). PointsFrom i (Some q) (Some (lower a o)) (Some a ∷ os)) (sym (cond-false _ _ _ h)) (w.0, ap Some e, w.2, (suc w.3.0, omega (arith, w.3.1), w.3.2))
 
-pub lowest_is : (low : Option ℕ) (os : List (Option Area)) → reduce min (filter_map (candidate low) os) ≡ option_map (λ a. a.section) (lowest low os)
+points_from : (low : Option ℕ) (i : ℕ) (os : List (Option Area)) → PointsFrom i (reduce (nearer key) (filter_map (found low) (enumerate_from i os))) (lowest low os) os
 unfolding candidate lowest
-lowest_is low [] = refl
-lowest_is low (None ∷ os) = lowest_is low os
-lowest_is low (Some a ∷ os) = go (cases_Bool (above low a.section && some a.records)) (lowest_is low os)
+points_from low i [] = refl
+points_from low i (None ∷ os) = behind i (reduce (nearer key) (filter_map (found low) (enumerate_from (i + 1) os))) None (lowest low os) os (points_from low (i + 1) os)
+points_from low i (Some a ∷ os) = go (cases_Bool (above low a.section && some a.records)) (points_from low (i + 1) os)
   where
-    go : ((above low a.section && some a.records) ≡ true) ⊎ ((above low a.section && some a.records) ≡ false) → reduce min (filter_map (candidate low) os) ≡ option_map (λ a. a.section) (lowest low os) → reduce min (filter_map (candidate low) (Some a ∷ os)) ≡ option_map (λ a. a.section) (lowest low (Some a ∷ os))
-    go (inl h) ih =
-        simp h (reduce_more a.section (filter_map (candidate low) os) ∙ ap (λ o. Some (least_of a.section o)) ih ∙ ap Some (sym (lower_section a (lowest low os))))
-    go (inr h) ih = simp h ih
+    go : ((above low a.section && some a.records) ≡ true) ⊎ ((above low a.section && some a.records) ≡ false) → PointsFrom (i + 1) (reduce (nearer key) (filter_map (found low) (enumerate_from (i + 1) os))) (lowest low os) os → PointsFrom i (reduce (nearer key) (filter_map (found low) (enumerate_from i (Some a ∷ os)))) (lowest low (Some a ∷ os)) (Some a ∷ os)
+    go (inl h) w =
+        let rest = filter_map (found low) (enumerate_from (i + 1) os) in
+        let r = ap (λ (c : Option ℕ). reduce (nearer key) (cons_option (option_map (λ s. (s, i)) c) rest)) (cond-true _ (Some a.section) None h) ∙ reduce_more (a.section, i) rest in
+        subst (λ (x : Option (ℕ × ℕ)). PointsFrom i x (lowest low (Some a ∷ os)) (Some a ∷ os)) (sym r)
+        (subst (λ (o : Option Area). PointsFrom i (Some (or_low (a.section, i) (reduce (nearer key) rest))) o (Some a ∷ os)) (sym (cond-true _ (Some (lower a (lowest low os))) (lowest low os) h))
+        (in_front i a (reduce (nearer key) rest) (lowest low os) os w))
+    go (inr h) w =
+        let rest = filter_map (found low) (enumerate_from (i + 1) os) in
+        let r = ap (λ (c : Option ℕ). reduce (nearer key) (cons_option (option_map (λ s. (s, i)) c) rest)) (cond-false _ (Some a.section) None h) in
+        subst (λ (x : Option (ℕ × ℕ)). PointsFrom i x (lowest low (Some a ∷ os)) (Some a ∷ os)) (sym r)
+        (subst (λ (o : Option Area). PointsFrom i (reduce (nearer key) rest) o (Some a ∷ os)) (sym (cond-false _ (Some (lower a (lowest low os))) (lowest low os) h))
+        (behind i (reduce (nearer key) rest) (Some a) (lowest low os) os w))
 
--- the lowest area shows the records of its section
+from_first : (r : Option (ℕ × ℕ)) (o : Option Area) (os : List (Option Area)) → PointsFrom 0 r o os → Points r o os
+from_first None o os w = w
+from_first (Some p) o os w =
+    let z : p.1 ≡ w.3.0 = omega (arith, w.3.1) in
+    (w.0, w.1, w.2, ap (λ k. get_or os k None) z ∙ w.3.2)
 
-record Shown (low : Option ℕ) (os : List (Option Area)) (a : Area) : Type 0 where
-  pub above : above low a.section ≡ true
-  pub records : records_in a.section os ≡ a.records
-
--- an area that stands in front and is passed over
-shown_behind : (low : Option ℕ) (x : Area) (os : List (Option Area)) (a : Area) → shows a.section (Some x) ≡ false → Shown low os a → Shown low (Some x ∷ os) a
-shown_behind low x os a e s = record { above = s.above; records = in_pass a.section (Some x) os e ∙ s.records }
-
--- one that stands in front and is the lowest
-shown-first : (low : Option ℕ) (x : Area) (os : List (Option Area)) → above low x.section ≡ true → some x.records ≡ true → Shown low (Some x ∷ os) x
-unfolding shows
-shown-first low x os h r = record { above = h; records = in_here x.section x os (and_from _ _ (eq-eqb _ _ refl) r) }
-
--- one that is none of the candidates
-not_shown : (low : Option ℕ) (x a : Area) → (above low x.section && some x.records) ≡ false → above low a.section ≡ true → shows a.section (Some x) ≡ false
-unfolding shows
-not_shown low x a h t = go (cases_eq a.section x.section)
-  where
-    go : (a.section ≡ x.section) ⊎ (a.section ≡ x.section → ⊥) → (eqb a.section x.section && some x.records) ≡ false
-    go (inl q) =
-        let u : above low x.section ≡ true = sym (ap (above low) q) ∙ t in
-        and_right (eqb a.section x.section) _ (sym (ap (λ b. b && some x.records) u) ∙ h)
-    go (inr q) = and_left _ _ (ne_eqb _ _ q)
-
--- one with a higher section
-above_shown : (x b : Area) → leb x.section b.section ≡ false → shows b.section (Some x) ≡ false
-unfolding shows
-above_shown x b h =
-    let l = leb-false _ _ h in
-    let ne : b.section ≢ x.section = (λ q. omega arith) in
-    and_left _ _ (ne_eqb _ _ ne)
-
-lowest_shown : (low : Option ℕ) (os : List (Option Area)) (a : Area) → lowest low os ≡ Some a → Shown low os a
-unfolding lowest shows lower
-lowest_shown low [] a e = let z : ◌≡◌ {A = ℕ} 0 1 = cc in absurd (omega arith)
-lowest_shown low (None ∷ os) a e =
-    let s = lowest_shown low os a e in
-    record { above = s.above; records = in_pass a.section None os refl ∙ s.records }
-lowest_shown low (Some x ∷ os) a e = go (cases_Bool (above low x.section && some x.records)) (λ b. lowest_shown low os b)
-  where
-    least : (o : Option Area) → lowest low os ≡ o → above low x.section ≡ true → some x.records ≡ true → ((b : Area) → lowest low os ≡ Some b → Shown low os b) → Shown low (Some x ∷ os) (lower x o)
-    least None w h r ih = shown-first low x os h r
-    least (Some b) w h r ih = pick (cases_Bool (leb x.section b.section))
-      where
-        pick : (leb x.section b.section ≡ true) ⊎ (leb x.section b.section ≡ false) → Shown low (Some x ∷ os) (cond (leb x.section b.section) x b)
-        pick (inl l) = simp l (shown-first low x os h r)
-        pick (inr l) = simp l (shown_behind low x os b (above_shown x b l) (ih b w))
-
-    go : ((above low x.section && some x.records) ≡ true) ⊎ ((above low x.section && some x.records) ≡ false) → ((b : Area) → lowest low os ≡ Some b → Shown low os b) → Shown low (Some x ∷ os) a
-    go (inl h) ih =
-        let f : Some (lower x (lowest low os)) ≡ Some a = sym (cond-true _ _ _ h) ∙ e in
-        let z : lower x (lowest low os) ≡ a = cc in
-        let p = and_parts _ _ h in
-        subst (Shown low (Some x ∷ os)) z (least (lowest low os) refl p.0 p.1 ih)
-    go (inr h) ih =
-        let s = ih a (sym (cond-false _ _ _ h) ∙ e) in
-        shown_behind low x os a (not_shown low x a h s.above) s
-
-pub leading_is : (low : Option ℕ) (os : List (Option Area)) (s : ℕ) → Some s ≡ option_map (λ a. a.section) (lowest low os) → option_map (placed_at s 0) (slice_get (records_in s os) 0) ≡ leading (lowest low os)
-leading_is low os s e = go (lowest low os) refl e
-  where
-    go : (o : Option Area) → lowest low os ≡ o → Some s ≡ option_map (λ a. a.section) o → option_map (placed_at s 0) (slice_get (records_in s os) 0) ≡ leading o
-    go None w f = let z : ◌≡◌ {A = ℕ} 0 1 = cc in absurd (omega arith)
-    go (Some a) w f =
-        let h = lowest_shown low os a w in
-        let z : s ≡ a.section = cc in
-        ap (λ t. option_map (placed_at t 0) (slice_get (records_in t os) 0)) z ∙ ap (λ rs. option_map (placed_at a.section 0) (slice_get rs 0)) h.records
+pub points_at : (low : Option ℕ) (os : List (Option Area)) → Points (reduce (least (λ p. p.0)) (filter_map (found low) (enumerate_from 0 os))) (lowest low os) os
+points_at low os =
+    from_first _ _ os (subst (λ (r : Option (ℕ × ℕ)). PointsFrom 0 r (lowest low os) os) (sym (reduce_least (λ p. p.0) (filter_map (found low) (enumerate_from 0 os)))) (points_from low 0 os))

@@ -1,11 +1,16 @@
 -- The record that is read next. Assumes nothing.
-use Rattle.std.specs.Prelude.{ℕ, ◌+◌, List, Some, None, Option}
+use Rattle.std.specs.Prelude.{◌≡◌, slice_index_or, ℕ, ◌+◌, List, Some, None, Option}
 use Rattle.std.specs.Option.{option_map}
 use Rattle.std.specs.List.{slice_get}
 use Rattle.area.specs.Area.{Area}
 use Rattle.journal.specs.Log.{Placed}
 use Rattle.journal.specs.declared.places.Place.{Place}
 use Rattle.areas.specs.Plan.{records_in, lowest}
+
+-- a section and the place of an area, where one is looked for and found
+abbrev pub Points : Option (ℕ × ℕ) → Option Area → List (Option Area) → Type 0
+Points None o os = o ≡ None
+Points (Some p) o os = (a : Area) × (o ≡ Some a) × (p.0 ≡ a.section) × (slice_index_or os p.1 None ≡ Some a)
 
 -- a record of a section with its number
 abbrev pub placed_at : ℕ → ℕ → List ℕ → Placed

@@ -1,13 +1,13 @@
 //! Which record is read next.
-ghost use Rattle.std.specs.Prelude.{◌≡◌, ◌+◌, ◌<◌, [], length, drop, MatchOption};
+ghost use Rattle.std.specs.Prelude.{◌≡◌, ◌+◌, [], MatchOption};
 ghost use Rattle.std.specs.Option.{option_map};
 ghost use Rattle.std.specs.List.{slice_get};
 ghost use Rattle.area.specs.Area.{read, records_of};
 ghost use Rattle.journal.specs.Places.{placed};
 ghost use Rattle.areas.specs.Plan.{plan, some, shows, records_in, above as Above, candidate as Candidate, lowest as Lowest};
-ghost use Rattle.areas_reading.specs.Next.{placed_at, leading, next_of};
+ghost use Rattle.areas_reading.specs.Next.{Points, placed_at, leading, next_of};
 
-use areas::{AREA, owns};
+use areas::{AREA, owns, part};
 use journal::{Place, Record};
 
 // Whether an area has a record.
@@ -51,14 +51,15 @@ fn candidate(area: &[u8], low: Option<u64>) -> Option<u64>
     has_record(area).then_some(section)
 }
 
-// The lowest section above a number of which an area has a record.
-fn lowest(medium: &[u8], low: Option<u64>) -> Option<u64>
-    ensures { result ≡ option_map (λ a. a.section) (Lowest low (plan medium.now)) }
+// The lowest section above a number of which an area has a record, and the place of the first such area.
+fn lowest(medium: &[u8], low: Option<u64>) -> Option<(u64, usize)>
+    ensures { Points result (Lowest low (plan medium.now)) (plan medium.now) }
 {
     medium
         .chunks_exact(AREA)
-        .filter_map(|area| candidate(area, low))
-        .min()
+        .enumerate()
+        .filter_map(|(at, area)| candidate(area, low).map(|section| (section, at)))
+        .min_by_key(|(section, _)| *section)
 }
 
 // A record of an area, with its place.
@@ -81,7 +82,8 @@ fn record_of(medium: &[u8], section: u64, number: u64) -> Option<Record<'_>>
 fn first_above(medium: &[u8], low: Option<u64>) -> Option<Record<'_>>
     ensures { option_map placed result ≡ leading (Lowest low (plan medium.now)) }
 {
-    record_of(medium, lowest(medium, low)?, 0)
+    let (section, at) = lowest(medium, low)?;
+    record_in(part(medium, at), section, 0)
 }
 
 // The next record of the section of a place.

@@ -1,11 +1,11 @@
 //! Where reading a medium comes to something that is no record and no end.
-ghost use Rattle.std.specs.Prelude.{◌≡◌, ◌<◌, length, None, slice_index_or};
-ghost use Rattle.area.specs.Area.{records_of};
+ghost use Rattle.std.specs.Prelude.{◌≡◌, length};
+ghost use Rattle.area.specs.Area.{read, records_of};
 ghost use Rattle.areas.specs.Plan.{plan, areas_of};
-ghost use Rattle.areas_reading.specs.Overruns.{overrun_of, overrun_by, earlier as Earlier, overrun as Overran};
+ghost use Rattle.areas_reading.specs.Overruns.{overrun_of, overrun_by, overrun as Overran};
 
 use area::Records;
-use areas::{count, find, part};
+use areas::{AREA, find, part};
 use journal::{Defect, Overrun, Place};
 
 // How many records an area has.
@@ -33,37 +33,19 @@ fn overrun_of(medium: &[u8], section: u64) -> Option<Overrun>
     })
 }
 
-// Of two overruns the one in the lower section.
-fn earlier(a: Option<Overrun>, b: Option<Overrun>) -> Option<Overrun>
-    ensures { result ≡ Earlier a b }
-{
-    match (a, b) {
-        (Some(x), Some(y)) => Some(if x.place.section <= y.place.section {
-            x
-        } else {
-            y
-        }),
-        (x, None) => x,
-        (None, y) => y,
-    }
-}
-
 // The overrun of the section of an area.
-fn overrun_by(medium: &[u8], i: usize) -> Option<Overrun>
-    requires { i < length (plan medium.now) }
-    ensures { result ≡ overrun_by (plan medium.now) (slice_index_or (plan medium.now) i None) }
+fn overrun_by(medium: &[u8], area: &[u8]) -> Option<Overrun>
+    ensures { result ≡ overrun_by (plan medium.now) (read area.now) }
 {
-    let section = area::section(part(medium, i))?;
-    overrun_of(medium, section)
+    overrun_of(medium, area::section(area)?)
 }
 
 /// The first overrun in reading order.
 pub fn overrun(medium: &[u8]) -> Option<Overrun>
     ensures { result ≡ Overran (plan medium.now) }
 {
-    let mut first = None;
-    for i in (0..count(medium)).rev() {
-        first = earlier(overrun_by(medium, i), first);
-    }
-    first
+    medium
+        .chunks_exact(AREA)
+        .filter_map(|area| overrun_by(medium, area))
+        .min_by_key(|overrun| overrun.place.section)
 }

@@ -13,7 +13,7 @@ use Rattle.areas.specs.Plan.{area_at, plan, areas_of, First, spared, room_in, ro
 use Rattle.areas_writing.specs.Steps.{Swapped, cost_in, cost, takes, Adding}
 use Rattle.areas.proofs.Parts.{get_d_plan, length-area}
 
-pub fits-short : (m n : ℕ) (a : Area) → fits m a n ≡ true → leb n 1068 ≡ true
+fits-short : (m n : ℕ) (a : Area) → fits m a n ≡ true → leb n 1068 ≡ true
 unfolding fits
 fits-short m n a h = (and_parts (leb n 1068) _ (and_parts (not (is_some a.defect)) _ h).1).0
 
@@ -21,12 +21,12 @@ none_of : {X : Type 0} (o : Option X) → is_some o ≡ false → o ≡ None
 none_of None h = refl
 none_of (Some x) h = absurd (true≢false h)
 
-pub fits-sound : (m n : ℕ) (a : Area) → fits m a n ≡ true → a.defect ≡ None
+fits-sound : (m n : ℕ) (a : Area) → fits m a n ≡ true → a.defect ≡ None
 unfolding fits
 fits-sound m n a h = none_of a.defect (not-true _ (and_parts (not (is_some a.defect)) _ h).0)
 
 -- one area in the place of another
-pub swapped : (i : ℕ) (was new : Option Area) (os ns : List (Option Area)) → i < length os → get_or os i None ≡ was → ns ≡ set os i new → Swapped was new os ns
+swapped : (i : ℕ) (was new : Option Area) (os ns : List (Option Area)) → i < length os → get_or os i None ≡ was → ns ≡ set os i new → Swapped was new os ns
 swapped i was new os ns h w e =
     let d : drop i os ≡ was ∷ drop (i + 1) os = drop_more os i None h ∙ ap (λ o. o ∷ drop (i + 1) os) w in
     record {
@@ -64,7 +64,7 @@ takes_long os s n h = and_left (leb n 1068) _ (lt-leb n 1068 h)
 pub takes_none : (os : List (Option Area)) (s n : ℕ) → areas_of s os ≡ [] → spared os ≡ false → takes os s n ≡ false
 takes_none os s n e f = takes-free os s n e ∙ and_right (leb n 1068) (spared os) f
 
-pub takes_spare : (os : List (Option Area)) (s n : ℕ) → areas_of s os ≡ [] → n ≤ 1068 → spared os ≡ true → takes os s n ≡ true
+takes_spare : (os : List (Option Area)) (s n : ℕ) → areas_of s os ≡ [] → n ≤ 1068 → spared os ≡ true → takes os s n ≡ true
 takes_spare os s n e h f = takes-free os s n e ∙ and_from (leb n 1068) (spared os) (le-leb n 1068 h) f
 
 cost_sole : (os : List (Option Area)) (s n : ℕ) (a : Area) (more : List Area) → areas_of s os ≡ a ∷ more → n + 4 ≡ cost os s n

@@ -1,8 +1,7 @@
 -- What pruning does to the areas of a medium. Assumes nothing.
-use Rattle.std.proofs.Common.{◌≡◌, ℕ, zero, suc, ◌+◌, ◌<◌, ◌≤◌, min, true, false, ltb, List, [], ◌∷◌, ◌++◌, map, length, get_or, take, drop, set, Some, None, Ok, Err, Option, Result, sym, refl, ap, ◌∙◌, subst, arith}
+use Rattle.std.proofs.Common.{◌≡◌, ℕ, zero, suc, ◌+◌, ◌<◌, ◌≤◌, min, true, false, List, [], ◌∷◌, ◌++◌, map, length, get_or, take, drop, set, None, Ok, Err, Option, Result, sym, ap, ◌∙◌, subst, arith}
 use Rattle.std.proofs.lemmas.List.{drop_more, drop_all, take_all, take_more, append_assoc, append-nil, set-get_or, set_at, length-take-le, length-append, length-map, length-drop, length-take, get_or_append_left, get_or-take}
 use Rattle.std.proofs.lemmas.Bool.{cond-true, cond-false}
-use Rattle.std.specs.Option.{option_map}
 use Rattle.journal.specs.declared.stops.Stop.{Stop}
 use Rattle.journal.specs.declared.stops.Stop.TheVariants.{Full, Pruned, Off}
 use Rattle.area.specs.Area.{Area, read}
@@ -12,16 +11,6 @@ use Rattle.power.proofs.Power.{took_none, took_both, took-second}
 use Rattle.areas.specs.Plan.{area_at, plan}
 use Rattle.areas_writing.specs.Steps.{under, cleared, cleared_from, stores_for, unders, ClearingAt, Clearing}
 use Rattle.areas.proofs.Parts.{get_d_plan, length-area}
-
-pub under_some : (s : ℕ) (o : Option Area) (t : ℕ) → option_map (λ a. a.section) o ≡ Some t → ltb t s ≡ under s o
-unfolding under
-under_some s None t e = let z : ◌≡◌ {A = ℕ} 0 1 = cc in absurd (omega arith)
-under_some s (Some a) t e = let z : a.section ≡ t = cc in ap (λ n. ltb n s) (sym z)
-
-pub under_none : (s : ℕ) (o : Option Area) → option_map (λ a. a.section) o ≡ None → false ≡ under s o
-unfolding under
-under_none s None e = refl
-under_none s (Some a) e = let z : ◌≡◌ {A = ℕ} 0 1 = cc in absurd (omega arith)
 
 one_byte : (bs : List ℕ) (i s : ℕ) → i < length (plan bs) → under s (get_or (plan bs) i None) ≡ true → min 1 (length (area_at i bs)) ≡ stores_for s (get_or (plan bs) i None)
 unfolding stores_for
@@ -55,7 +44,7 @@ pub unders_none : (n s : ℕ) (os : List (Option Area)) → length os ≤ n → 
 unfolding unders
 unders_none n s os h = ap (unders s) (drop_all n os h)
 
-pub unders-more : (i s : ℕ) (os : List (Option Area)) → i < length os → unders s (drop i os) ≡ stores_for s (get_or os i None) + unders s (drop (i + 1) os)
+unders-more : (i s : ℕ) (os : List (Option Area)) → i < length os → unders s (drop i os) ≡ stores_for s (get_or os i None) + unders s (drop (i + 1) os)
 unfolding unders
 unders-more i s os h = ap (unders s) (drop_more os i None h)
 
@@ -76,7 +65,7 @@ clear_more i s os h =
     ∙ set_at (take i os) (get_or os i None) rest (cleared s (get_or os i None)) i l
     ∙ sym (ap (λ xs. take i os ++ map (cleared s) xs) (drop_more os i None h))
 
-pub unders-drop : (i s : ℕ) (os : List (Option Area)) → unders s (drop i os) ≤ unders s os
+unders-drop : (i s : ℕ) (os : List (Option Area)) → unders s (drop i os) ≤ unders s os
 unfolding unders
 unders-drop zero s os = omega arith
 unders-drop (suc i) s [] = omega arith

@@ -126,6 +126,7 @@ pub fn prune(medium: &mut [u8], power: &mut Option<u64>, bound: u64) -> Result<(
     ensures step { Clearing medium.old power.old bound result medium.new power.new }
     ensures rest { rest_of medium.new ≡ rest_of medium.old }
 {
+    // kept: by index, since of what a loop over `chunks_exact_mut` writes a proof knows the length alone
     for at in (0..count(medium)).rev() {
         clear_at(medium, power, at, bound)?;
     }

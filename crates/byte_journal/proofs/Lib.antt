@@ -1,8 +1,8 @@
 pub mod Wholes
+pub mod Layouts
 pub mod Lookup
 pub mod Sieve
 pub mod Value
-pub mod Adding
 pub mod Grows
 pub mod Frees
 pub mod Steady

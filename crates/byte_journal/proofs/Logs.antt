@@ -1,32 +1,37 @@
 -- What each write does to the value of the journal. Assumes nothing.
-use Rattle.std.proofs.Common.{◌≡◌, ℕ, ◌<◌, max, Bool, true, false, cond, not, ◌||◌, eqb, ltb, ◌⊎◌, List, [], ◌∷◌, ◌++◌, map, Option, sym, refl, ap, ◌∙◌, subst, inl, inr, arith}
-use Rattle.std.proofs.lemmas.Bool.{cond_both, or_parts, or_cases, not-true, not-false, ltb-true, lt-ltb, true≢false, false≢true}
+use Rattle.std.proofs.Common.{◌≡◌, ℕ, ◌<◌, max, Bool, false, cond, not, ◌||◌, ltb, ◌⊎◌, List, [], ◌∷◌, map, Option, sym, refl, ap, ◌∙◌, subst, inl, inr, append-nil, arith}
+use Rattle.std.proofs.lemmas.Bool.{cond_both, or_parts, not-false, ltb-true}
+use Rattle.std.proofs.lemmas.Bool.Decides.{nat_tests}
 use Rattle.area.specs.Area.{Area}
 use Rattle.journal.specs.Log.{Bytes, Section, all_of, firm, added, «from», appended, all_synced, pruned, All, Sound, Firmer}
 use Rattle.journal.specs.Cuts.{SomeOf, Left, kept, AllLeft, Cut}
 use Rattle.journal.proofs.Firm.{firmer_refl}
+use Rattle.journal.proofs.Stays.{added-ascends}
 use Rattle.journal.proofs.Lost.{firmer_firm, lost_cut, kept_whole}
 use Rattle.areas.specs.Plan.{some, records_in, plan}
 use Rattle.areas_writing.specs.Steps.{Grown, Stayed, cleared, cleared_from}
 use Rattle.byte_journal.specs.Sections.{sections}
 use Rattle.byte_journal.specs.Value.{log_of}
 use Rattle.byte_journal.proofs.Lookup.{recs, AllKept, same_lists}
-use Rattle.byte_journal.proofs.Sieve.{sieve, recs_sieve, sieve_ascends, sieve_kept, from_sieve}
-use Rattle.byte_journal.proofs.Adding.{recs_firm, firm-ascends, firm-kept, kept-some, added-some, added-ascends, recs_added}
+use Rattle.byte_journal.proofs.Sieve.{sieve, recs_sieve, sieve_ascends, sieve_kept, from_sieve, recs_firm, firm-ascends, added-kept, recs_added}
 use Rattle.byte_journal.proofs.Value.{ascends, all-kept, recs_sections, same-sections}
 use Rattle.byte_journal.proofs.Grows.{grown-records, stayed_records}
 use Rattle.byte_journal.proofs.Frees.{freed-records, cleared-records}
 use Rattle.byte_journal.proofs.Short.{sound, solid, formed}
 
 -- an append
+grown_recs : (n s : ℕ) (b : Bytes) (os ns : List (Option Area)) → Grown s b os ns → recs n (sections ns) ≡ recs n (map firm (added s b (sections os)))
+grown_recs n s b os ns g =
+    let was = recs_sections n os in
+    let there = recs_sections s os in
+    let new = recs_sections n ns ∙ grown-records s b os ns g n in
+    let want = recs_firm n (added s b (sections os)) ∙ recs_added 0 n s b (sections os) (ascends os) in
+    grind (arith, nat_tests)
+
 grown-sections : (s : ℕ) (b : Bytes) (os ns : List (Option Area)) → Grown s b os ns → sections ns ≡ map firm (added s b (sections os))
 grown-sections s b os ns g =
-    same_lists 0 (sections ns) (map firm (added s b (sections os))) (ascends ns) (firm-ascends 0 (added s b (sections os)) (added-ascends 0 s b (sections os) (omega arith) (ascends os))) (all-kept ns) (firm-kept (added s b (sections os)) (added-some s b (sections os) (kept-some (sections os) (all-kept os))))
-    (λ n.
-    recs_sections n ns ∙ grown-records s b os ns g n
-    ∙ ap (λ l. cond (eqb n s) (l ++ (b ∷ [])) (records_in n os)) (sym (recs_sections s os))
-    ∙ ap (cond (eqb n s) (recs s (sections os) ++ (b ∷ []))) (sym (recs_sections n os))
-    ∙ sym (recs_firm n (added s b (sections os)) ∙ recs_added 0 n s b (sections os) (ascends os)))
+    same_lists 0 (sections ns) (map firm (added s b (sections os))) (ascends ns) (firm-ascends 0 (added s b (sections os)) (added-ascends 0 s b (sections os) (omega arith) (ascends os))) (all-kept ns) (added-kept s b (sections os) (all-kept os))
+    (λ n. grown_recs n s b os ns g)
 
 pub grown-log : (bound s : ℕ) (b : Bytes) (os ns : List (Option Area)) → Grown s b os ns → Firmer (appended s b (log_of bound os)) (log_of bound ns)
 unfolding appended all_synced
@@ -61,23 +66,14 @@ unfolding sieve AllLeft AllKept All Left kept
 sieve_left below keep h [] k q = refl
 sieve_left below keep h (x ∷ xs) k q =
     cond_both (keep x.number) _ _ (AllLeft below (x ∷ xs))
-    (λ _. (x.durable, inl (0, sym (Rattle.std.proofs.lemmas.List.append-nil x.durable)), (sieve keep xs, sieve_left below keep h xs k.1 q.1, kept_whole x k.0.loose q.0.some (sieve keep xs))))
+    (λ _. (x.durable, inl (0, sym (append-nil x.durable)), (sieve keep xs, sieve_left below keep h xs k.1 q.1, kept_whole x k.0.loose q.0.some (sieve keep xs))))
     (λ e. ([], inr (h x.number e, none_of (all_of x)), (sieve keep xs, sieve_left below keep h xs k.1 q.1, refl)))
-
-some_none : (rs : List Bytes) → some rs ≡ false → rs ≡ []
-unfolding some
-some_none [] h = refl
-some_none (r ∷ rs) h = absurd (true≢false h)
 
 -- what is left is what a test keeps
 kept_by : (n s : ℕ) (rs ts : List Bytes) → (ts ≡ rs) ⊎ ((n < s) × (ts ≡ [])) → ts ≡ cond (not (ltb n s) || some ts) rs []
 unfolding some
-kept_by n s rs ts (inl e) = cond_both (not (ltb n s) || some ts) rs [] (λ l. ts ≡ l) (λ _. e) (λ f. some_none ts (or_parts _ _ f).1)
-kept_by n s rs ts (inr (h, e)) = cond_both (not (ltb n s) || some ts) rs [] (λ l. ts ≡ l) (λ t. absurd (go (or_cases _ _ t))) (λ f. e)
-  where
-    go : (not (ltb n s) ≡ true) ⊎ (some ts ≡ true) → ⊥
-    go (inl t) = false≢true (sym (not-true (ltb n s) t) ∙ lt-ltb n s h)
-    go (inr t) = false≢true (sym (ap some e) ∙ t)
+kept_by n s rs [] h = grind (arith, nat_tests)
+kept_by n s rs (t ∷ ts) h = grind (arith, nat_tests)
 
 pub freed-log : (bound s i : ℕ) (bs : List ℕ) (ns : List (Option Area)) → ns ≡ cleared_from i s (plan bs) → Cut s (log_of bound (plan bs)) (log_of 0 ns)
 freed-log bound s i bs ns e =

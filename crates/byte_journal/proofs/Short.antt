@@ -1,9 +1,10 @@
 -- No record that is read is longer than 1,068 bytes. Assumes nothing.
-use Rattle.std.proofs.Common.{◌≡◌, ℕ, zero, suc, ◌+◌, ◌/◌, ◌<◌, ◌≤◌, true, false, eqb, ltb, ◌⊎◌, List, [], ◌∷◌, map, length, get_or, take, drop, Some, None, Option, sym, refl, subst, inl, inr, arith}
+use Rattle.std.proofs.Common.{◌≡◌, ℕ, zero, suc, ◌+◌, ◌/◌, ◌<◌, ◌≤◌, true, eqb, List, [], ◌∷◌, ◌++◌, map, length, get_or, take, drop, Some, None, Option, sym, refl, subst, arith}
 use Rattle.std.proofs.lemmas.List.{append-nil}
-use Rattle.std.proofs.lemmas.Bool.{cond_both, cases_Bool, cases_eq, false≢true}
+use Rattle.std.proofs.lemmas.Bool.{cond_both, false≢true}
+use Rattle.std.proofs.lemmas.Bool.Decides.{nat_tests}
 use Rattle.area.specs.Area.{Area, size, holds, records_by, records_at, records_of, read}
-use Rattle.area.proofs.Steps.{whole_from, length-body, by_more, by_none, of_used, of_other}
+use Rattle.area.proofs.Steps.{whole_from, length-body}
 use Rattle.areas.specs.Plan.{some, parts, areas_in, plan}
 use Rattle.areas_reading.proofs.Shows.{records_is}
 use Rattle.journal.specs.Log.{Bytes, Section, all_of, All, Sound, Formed}
@@ -17,19 +18,12 @@ Short rs = All (λ b. length b ≤ 1068) rs
 short_by : (f : ℕ) (bs : List ℕ) (at : ℕ) → Short (records_by f bs at)
 unfolding Short All records_by
 short_by zero bs at = tt
-short_by (suc f) bs at = go (cases_Bool (holds bs at)) (short_by f bs (at + 3 + size bs at))
-  where
-    go : (holds bs at ≡ true) ⊎ (holds bs at ≡ false) → Short (records_by f bs (at + 3 + size bs at)) → Short (records_by (suc f) bs at)
-    go (inl h) ih = subst Short (sym (by_more f bs at h)) (omega (arith, length-body bs at h, (whole_from bs at h).short), ih)
-    go (inr h) ih = subst Short (sym (by_none (suc f) bs at h)) tt
+short_by (suc f) bs at =
+    cond_both (holds bs at) _ _ (All (λ b. length b ≤ 1068)) (λ h. (omega (arith, length-body bs at h, (whole_from bs at h).short), short_by f bs (at + 3 + size bs at))) (λ _. tt)
 
 short_of : (bs : List ℕ) → Short (records_of bs)
-unfolding Short All records_at
-short_of bs = go (cases_eq (get_or bs 0 0) 1)
-  where
-    go : (get_or bs 0 0 ≡ 1) ⊎ (get_or bs 0 0 ≡ 1 → ⊥) → Short (records_of bs)
-    go (inl m) = subst Short (sym (of_used bs m)) (short_by (length bs) bs 9)
-    go (inr m) = subst Short (sym (of_other bs m)) tt
+unfolding Short All records_at records_of
+short_of bs = cond_both (eqb (get_or bs 0 0) 1) _ _ (All (λ b. length b ≤ 1068)) (λ _. short_by (length bs) bs 9) (λ _. tt)
 
 -- of every section
 unfoldable AllShort : List Section → Type 0
@@ -40,8 +34,9 @@ short-put : (s : ℕ) (rs : List Bytes) (xs : List Section) → Short rs → All
 unfolding put AllShort stored all_of
 short-put s rs [] h k = (subst Short (sym (append-nil rs)) h, tt)
 short-put s rs (x ∷ xs) h k =
-    cond_both (ltb s x.number) _ _ AllShort (λ _. (subst Short (sym (append-nil rs)) h, k))
-    (λ _. cond_both (eqb s x.number) _ _ AllShort (λ _. (subst Short (sym (append-nil rs)) h, k.1)) (λ _. (k.0, short-put s rs xs h k.1)))
+    let one : Short (rs ++ []) = subst Short (sym (append-nil rs)) h in
+    let ih = short-put s rs xs h k.1 in
+    grind (arith, nat_tests)
 
 short-shown : (s : ℕ) (rs : List Bytes) (xs : List Section) → Short rs → AllShort xs → AllShort (shown s rs xs)
 unfolding shown

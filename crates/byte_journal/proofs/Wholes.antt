@@ -1,5 +1,5 @@
 -- The laws of a byte journal. Assumes nothing.
-use Rattle.std.proofs.Common.{◌≡◌, ℕ, ◌<◌, true, cond, eqb, ltb, ◌⊎◌, List, [], ◌∷◌, ◌++◌, Some, None, Ok, Err, Option, sym, refl, ap, ◌∙◌, inl, inr, map, arith}
+use Rattle.std.proofs.Common.{◌≡◌, ℕ, ◌<◌, true, cond, eqb, ltb, ◌⊎◌, List, [], ◌∷◌, ◌++◌, length, Some, None, Ok, Err, Option, sym, refl, ap, ◌∙◌, inl, inr, map, arith}
 use Rattle.std.proofs.lemmas.Bool.{cond_both, eqb-true, ltb-false}
 use Rattle.area.specs.Area.{Area}
 use Rattle.areas.specs.Plan.{areas_of, plan, records_in, spared}
@@ -8,10 +8,12 @@ use Rattle.journal.specs.Laws.{durable_in}
 use Rattle.journal.specs.Log.{Section}
 use Rattle.journal.specs.declared.stops.Stop.TheVariants.{Full, Pruned, Off}
 use Rattle.byte_journal.specs.Sections.{sections}
-use Rattle.byte_journal.specs.Laws.{FirstAreaShows, AppendsWhole, PrunesWhole, PruneFrees}
+use Rattle.byte_journal.specs.Laws.{Sound, FirstAreaShows, FirstOverrun, AppendsWhole, PrunesWhole, PruneFrees}
 use Rattle.byte_journal.proofs.Lookup.{recs, AllKept, all-durable}
 use Rattle.byte_journal.proofs.Value.{all-kept, recs_sections}
 use Rattle.byte_journal.proofs.Grows.{own_not, grown-records, stayed_records}
+use Rattle.areas_reading.specs.Overruns.{overrun_of, overrun}
+use Rattle.byte_journal.proofs.Steady.{alone, of_one, of_no, none_each, none_in, first_in}
 use Rattle.byte_journal.proofs.Frees.{freed-records}
 
 durable_recs : (s : ℕ) (xs : List Section) → AllKept xs → durable_in s xs ≡ recs s xs
@@ -55,3 +57,21 @@ frees s t (Some a ∷ os) h n =
 
 pub prune_frees : PruneFrees
 prune_frees bs cs p q s w t h n = ap spared w.0 ∙ frees s t (plan bs) h n
+
+sound_by : (s : ℕ) (os : List (Option Area)) (xs : List Area) → areas_of s os ≡ xs → overrun_of s xs ≡ None → Sound s os
+unfolding overrun_of
+sound_by s os [] e z = inl e
+sound_by s os (a ∷ xs) e z = let c = alone s (length a.records) a.defect xs z in inr (a, e ∙ ap (λ l. a ∷ l) c.1, c.0)
+
+unsound : (s : ℕ) (os : List (Option Area)) → Sound s os → overrun_of s (areas_of s os) ≡ None
+unsound s os (inl e) = of_no s (areas_of s os) e
+unsound s os (inr (a, e, f)) = of_one s a (areas_of s os) e f
+
+pub first_overrun : FirstOverrun
+unfolding overrun
+first_overrun os =
+    (λ z s. sound_by s os (areas_of s os) refl (none_each os z s), λ h. none_in os os (λ s. unsound s os (h s)), λ x e s l. go s (first_in os os x e s l))
+  where
+    go : (s : ℕ) → (areas_of s os ≡ []) ⊎ (overrun_of s (areas_of s os) ≡ None) → Sound s os
+    go s (inl e) = inl e
+    go s (inr z) = sound_by s os (areas_of s os) refl z

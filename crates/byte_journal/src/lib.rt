@@ -8,13 +8,15 @@ ghost use Rattle.journal.specs.Laws.{Told};
 ghost use Rattle.journal.specs.Log.{Formed};
 ghost use Rattle.journal.specs.Steps.{Appended, Synced, AllSynced, Pruning, Reading, Steady, Clean};
 ghost use Rattle.power.specs.Power.{Powered};
-ghost use Rattle.byte_journal.specs.Value.{bytes_of, bound_of, power_of, name_of, disk_of, overrun_of, append_cost, prune_cost};
+ghost use Rattle.byte_journal.specs.Value.{bytes_of, bound_of, power_of, name_of, disk_of, overrun_of, append_cost, prune_cost, Untouched};
 
 use journal::{Journal, Overrun, Place, ReadStop, Record, Stop};
 
 mod laws;
 
-pub use laws::{appends_whole, first_area_shows, prune_frees, prunes_whole};
+pub use laws::{
+    appends_whole, first_area_shows, first_overrun_stands, layout_stands, prune_frees, prunes_whole,
+};
 
 /// A journal over lent bytes, in areas of 4,096. Each byte is one store.
 #[derive(Drop)]
@@ -83,12 +85,14 @@ impl Journal for ByteJournal<'_> {
         ensures step { Appended (disk_of self.old) section bytes.now result (disk_of self.new) }
         ensures overruns { Steady result (overrun_of self.old) (overrun_of self.new) }
         ensures power { Powered (append_cost section bytes.now (bytes_of self.old)) result (power_of self.old) (power_of self.new) }
+        ensures refused { Untouched result (bytes_of self.old) (bytes_of self.new) }
         ensures rest { rest_of (bytes_of self.new) ≡ rest_of (bytes_of self.old) }
         ensures same_bytes { name_of self.new ≡ name_of self.old }
     {
         if section < self.bound {
             return Err(Stop::Pruned);
         }
+        // kept: through a variable, since two fields behind one reference cannot be lent at once
         let mut power = self.power;
         let appended = areas_writing::append(self.bytes, &mut power, section, bytes);
         self.power = power;
@@ -102,6 +106,7 @@ impl Journal for ByteJournal<'_> {
         ensures step { Synced (disk_of self.old) section result (disk_of self.new) }
         ensures overruns { Steady result (overrun_of self.old) (overrun_of self.new) }
         ensures power { Powered 0 result (power_of self.old) (power_of self.new) }
+        ensures bytes { bytes_of self.new ≡ bytes_of self.old }
         ensures same_bytes { name_of self.new ≡ name_of self.old }
     {
         Ok(()) // what is stored is durable
@@ -111,6 +116,7 @@ impl Journal for ByteJournal<'_> {
         ensures step { AllSynced (disk_of self.old) result (disk_of self.new) }
         ensures overruns { Steady result (overrun_of self.old) (overrun_of self.new) }
         ensures power { Powered 0 result (power_of self.old) (power_of self.new) }
+        ensures bytes { bytes_of self.new ≡ bytes_of self.old }
         ensures same_bytes { name_of self.new ≡ name_of self.old }
     {
         Ok(()) // so is every section
@@ -138,6 +144,7 @@ impl Journal for ByteJournal<'_> {
         ensures step { Reading (disk_of self.old) (overrun_of self.old) result (disk_of self.new) (overrun_of self.new) }
         ensures formed { Formed (disk_of self.new).log }
         ensures power { Told result × (power_of self.new ≡ power_of self.old) }
+        ensures bytes { bytes_of self.new ≡ bytes_of self.old }
         ensures same_bytes { name_of self.new ≡ name_of self.old }
     {
         match self.first_overrun() {
@@ -154,6 +161,7 @@ impl Journal for ByteJournal<'_> {
         ensures step { Cut 0 (disk_of self.old).log (disk_of self.new).log }
         ensures overruns { Clean (overrun_of self.old) (overrun_of self.new) }
         ensures power { power_of self.new ≡ power_of self.old }
+        ensures bytes { bytes_of self.new ≡ bytes_of self.old }
         ensures same_bytes { name_of self.new ≡ name_of self.old }
     {
         self.bound = 0; // it was in memory only

@@ -1,5 +1,5 @@
 use Rattle.std.proofs.Common.{◌≡◌, ℕ, ◌+◌, List, Ok, Err, length, set, refl, ap, ◌∙◌, arith, rules, subst, sym}
-use Rattle.area.specs.Edits.{Kept, put, eight, begun}
+use Rattle.area.specs.Edits.{Kept, put, begun}
 use Rattle.area.proofs.Stores.{stopped_then, stored_then}
 use Rattle.area.proofs.Puts.{kept_by, kept_set}
 use Rattle.area.proofs.writes.store_head.Goals as goal
@@ -17,7 +17,7 @@ returns-in_err-store c =
     rw told (stopped_then (length b) 1 10 1 (length one) old one (set one 9 0) (begun c.args.section old) c.store.new.area c.args.power.now c.store_all.new.power c.store.new.power c.in_err-store.field-0.0 (omega arith) w.0 kept (omega arith) c.in_err-store.ensures)
 
 pub returns : goal.returns
-unfolding begun eight
+unfolding begun
 returns c =
     let w = c.in_ok-store_all.ensures in
     let v = c.in_ok-store.ensures in

@@ -1,14 +1,18 @@
-use Rattle.std.proofs.Common.{◌∙◌, rules}
-use Rattle.std.proofs.lemmas.Iterator.Consumers.{min_from_yields_List, YieldsList-at, YieldsList-from_filter_map}
-use Rattle.areas.specs.Plan.{candidate, plan}
+use Rattle.std.proofs.Common.{ℕ, Option, subst, sym, rules}
+use Rattle.std.proofs.lemmas.Iterator.Consumers.{YieldsList-at, YieldsList-from_enumerate, YieldsList-from_filter_map}
+use Rattle.areas.specs.Plan.{lowest, plan}
 use Rattle.areas.proofs.Chunks.{YieldsList-areas}
-use Rattle.areas_reading.proofs.Lows.{plain, lowest_is}
+use Rattle.areas_reading.specs.Next.{Points}
+use Rattle.areas_reading.proofs.Keyed.{first_least}
+use Rattle.areas_reading.proofs.Lows.{found, points_at}
 use Rattle.areas_reading.proofs.nexts.lowest.Goals as goal
 
 pub returns : goal.returns
 returns c =
-    let least = min_from_yields_List _ c.min.result c.min.ensures.ran
-    (YieldsList-from_filter_map _ (candidate c.args.low)
-    (YieldsList-at c.filter_map.ensures.source (YieldsList-areas c.args.medium.now c.chunks_exact.ensures.rest c.chunks_exact.ensures.size))
+    let all = plan c.args.medium.now in
+    let least = first_least _ (λ p. p.0) _ (λ x k q t. search rules) c.filter_map.result c.min_by_key.result c.min_by_key.ensures.ran
+    (YieldsList-from_filter_map _ (found c.args.low)
+    (YieldsList-at c.filter_map.ensures.source
+    (YieldsList-from_enumerate (YieldsList-at c.enumerate.ensures.source (YieldsList-areas c.args.medium.now c.chunks_exact.ensures.rest c.chunks_exact.ensures.size)) c.enumerate.ensures.count))
     c.filter_map.ensures.closure (λ x r q k. search rules)) in
-    plain c.min.result ∙ least ∙ lowest_is c.args.low (plan c.args.medium.now)
+    subst (λ (r : Option (ℕ × ℕ)). Points r (lowest c.args.low all) all) (sym least) (points_at c.args.low all)
