@@ -5,10 +5,12 @@
 mod answers;
 mod decoding;
 mod encoding;
+mod laws;
 mod printing;
 mod reading;
 mod refusals;
 
 pub use answers::Answer;
+pub use laws::says_back;
 pub use reading::read;
 pub use refusals::Refusal;

@@ -14,7 +14,7 @@ use Rattle.mapped.specs.Judging.{reject_for, reject_in}
 use Rattle.pooled.specs.Judging.{summed}
 use Rattle.pooled.specs.Pooling.{pooling}
 use Rattle.provider.specs.Values.{key_bytes, number}
-use Rattle.provider_commands.specs.Reading.{Query, signs, accepts, assembles, judges}
+use Rattle.provider_commands.specs.Reading.{Query, signs, accepts, assembles, judges, Said, begins, adds, asks}
 use Rattle.provider_commands.specs.Sets.{Signers, given, shown}
 use Rattle.provider_commands.specs.declared.commands.Kind.{Kind}
 use Rattle.provider_commands.specs.declared.commands.Kind.TheVariants.{Listed, Pooled}
@@ -28,7 +28,7 @@ use Rattle.trial.specs.Sets.{keys_of, count_of, set_at}
 use Rattle.trial.specs.Trials.{tagged, keys_among, own_among, accepted_among, signed_by}
 use Rattle.types.specs.Numbers.{Participant}
 use Rattle.console_provider.specs.declared.answers.Refusal.{Refusal}
-use Rattle.console_provider.specs.Doing.{body_of, signature_or, certificate_or, judged, where_known, reply}
+use Rattle.console_provider.specs.Doing.{added, answer, body_of, signature_or, certificate_or, judged, where_known, reply}
 use Rattle.console_provider.specs.Lending.{lent}
 use Rattle.console_provider.specs.Told.{Told, accepted, rejected}
 
@@ -134,3 +134,8 @@ shown_more ts t xs x all one =
 -- a list with the signers of some sets and one more has the fault that those have once they are lent
 pub fault_more : (ss : List EpochSet) (xs : List SignerSet) (x : SignerSet) → map shown ss ≡ map given xs ++ given x ∷ [] → list_fault (map lent (xs ++ x ∷ [])) ≡ list_fault ss
 fault_more ss xs x same = same_list_fault (map lent (xs ++ x ∷ [])) ss (lent_shown (xs ++ x ∷ []) ∙ map-append given xs (x ∷ []) ∙ sym same)
+
+pub same_answer : (s : Said) (k : Kind) (ss ts : List EpochSet) → map shown ss ≡ map shown ts → answer s k ss ≡ answer s k ts
+same_answer (begins kind) k ss ts same = refl
+same_answer (adds g) k ss ts same = ap (added g) (same_list_fault ss ts same)
+same_answer (asks e q) k ss ts same = same_reply k ss ts e q same
