@@ -4,3 +4,4 @@ pub mod Doing
 pub mod Held
 pub mod Journaled
 pub mod Obeying
+pub mod Laws

@@ -3,6 +3,7 @@
 
 mod answers;
 mod journals;
+mod laws;
 mod listings;
 mod looks;
 mod open;
@@ -10,3 +11,4 @@ mod operations;
 
 pub use answers::{Answer, Refusal};
 pub use journals::Journals;
+pub use laws::{durable_stays, records_whole};
