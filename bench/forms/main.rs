@@ -1,0 +1,292 @@
+//! Writes and reads a million messages, and a million records of each kind, with the proved forms and with plain ones.
+mod plain;
+#[path = "../race.rs"]
+mod race;
+
+use plain::{
+    Ack, Activity, Fault, NewAck, NewActivity, NewCertified, NewTipAck, Part, Short, TipAck,
+};
+use plain::{read_activity, read_message, write_activity, write_message};
+use race::{Draw, race};
+
+/// The numbers of a message or of a record.
+#[repr(C)]
+struct Numbers {
+    tip: u64,
+    height: u64,
+    epoch: u64,
+    signer: u64,
+}
+
+/// The byte strings of messages and records; the certificate is that of eleven signers among sixteen.
+#[repr(C)]
+struct Strings {
+    digest: [u8; 32],
+    signature: [u8; 64],
+    certificate: [u8; 706],
+}
+
+type ProvedRead = unsafe extern "C" fn(*const u8, usize, *const usize, usize) -> u64;
+type ProvedWrite = unsafe extern "C" fn(*mut u8, usize, *const Numbers, usize, &Strings) -> usize;
+
+// the functions of exports.rt.txt: a slice is its pointer and its length
+unsafe extern "C" {
+    fn forms_read_messages(bytes: *const u8, len: usize, lens: *const usize, count: usize) -> u64;
+    fn forms_read_records(bytes: *const u8, len: usize, lens: *const usize, count: usize) -> u64;
+    fn forms_write_messages(
+        out: *mut u8,
+        len: usize,
+        all: *const Numbers,
+        count: usize,
+        strings: &Strings,
+    ) -> usize;
+    fn forms_write_acks(
+        out: *mut u8,
+        len: usize,
+        all: *const Numbers,
+        count: usize,
+        strings: &Strings,
+    ) -> usize;
+    fn forms_write_certified(
+        out: *mut u8,
+        len: usize,
+        all: *const Numbers,
+        count: usize,
+        strings: &Strings,
+    ) -> usize;
+    fn forms_write_tips(
+        out: *mut u8,
+        len: usize,
+        all: *const Numbers,
+        count: usize,
+        strings: &Strings,
+    ) -> usize;
+}
+
+fn sum_of_part(part: Part<'_>) -> u64 {
+    let last = part.bytes.last().copied().unwrap_or(0);
+    part.at as u64 ^ (part.bytes.len() as u64) << 16 ^ u64::from(last) << 32
+}
+
+fn sum_of_ack(ack: Ack<'_>) -> u64 {
+    let numbers = ack.height ^ ack.epoch ^ ack.signer;
+    numbers ^ sum_of_part(ack.digest) ^ sum_of_part(ack.signature) << 8
+}
+
+fn sum_of_message(read: Result<TipAck<'_>, Fault>) -> u64 {
+    match read {
+        Ok(message) => message.tip ^ sum_of_ack(message.ack),
+        Err(fault) => fault.at as u64,
+    }
+}
+
+fn sum_of_record(read: Result<Activity<'_>, Fault>) -> u64 {
+    match read {
+        Ok(Activity::Ack(ack)) => sum_of_ack(ack),
+        Ok(Activity::Certified(certified)) => {
+            certified.height
+                ^ sum_of_part(certified.digest)
+                ^ sum_of_part(certified.certificate) << 8
+        }
+        Ok(Activity::Tip(tip)) => tip,
+        Err(fault) => fault.at as u64,
+    }
+}
+
+fn read_all(bytes: &[u8], lens: &[usize], read: impl Fn(&[u8]) -> u64) -> u64 {
+    let mut rest = bytes;
+    let mut sum = 0u64;
+    for len in lens {
+        let Some((item, behind)) = rest.split_at_checked(*len) else {
+            return 0;
+        };
+        sum = sum.rotate_left(1) ^ read(item);
+        rest = behind;
+    }
+    sum
+}
+
+fn write_all(
+    out: &mut [u8],
+    all: &[Numbers],
+    write: impl Fn(&mut [u8], &Numbers) -> Result<usize, Short>,
+) -> usize {
+    let mut at = 0;
+    for numbers in all {
+        let Some(rest) = out.get_mut(at..) else {
+            return 0;
+        };
+        let Ok(len) = write(rest, numbers) else {
+            return 0;
+        };
+        at += len;
+    }
+    at
+}
+
+fn ack_of<'a>(numbers: &Numbers, strings: &'a Strings) -> NewAck<'a> {
+    NewAck {
+        height: numbers.height,
+        digest: &strings.digest,
+        epoch: numbers.epoch,
+        signer: numbers.signer,
+        signature: &strings.signature,
+    }
+}
+
+#[inline(never)]
+fn read_messages(bytes: &[u8], lens: &[usize]) -> u64 {
+    read_all(bytes, lens, |message| sum_of_message(read_message(message)))
+}
+
+#[inline(never)]
+fn read_records(bytes: &[u8], lens: &[usize]) -> u64 {
+    read_all(bytes, lens, |item| sum_of_record(read_activity(item)))
+}
+
+#[inline(never)]
+fn write_messages(out: &mut [u8], all: &[Numbers], strings: &Strings) -> usize {
+    write_all(out, all, |out, numbers| {
+        let tip = numbers.tip;
+        let ack = ack_of(numbers, strings);
+        write_message(out, &NewTipAck { tip, ack })
+    })
+}
+
+#[inline(never)]
+fn write_acks(out: &mut [u8], all: &[Numbers], strings: &Strings) -> usize {
+    write_all(out, all, |out, numbers| {
+        write_activity(out, &NewActivity::Ack(ack_of(numbers, strings)))
+    })
+}
+
+#[inline(never)]
+fn write_certified(out: &mut [u8], all: &[Numbers], strings: &Strings) -> usize {
+    write_all(out, all, |out, numbers| {
+        let height = numbers.height;
+        let certified = NewCertified {
+            height,
+            digest: &strings.digest,
+            certificate: &strings.certificate,
+        };
+        write_activity(out, &NewActivity::Certified(certified))
+    })
+}
+
+#[inline(never)]
+fn write_tips(out: &mut [u8], all: &[Numbers], _: &Strings) -> usize {
+    write_all(out, all, |out, numbers| {
+        write_activity(out, &NewActivity::Tip(numbers.tip))
+    })
+}
+
+/// A form: how it is written and read, by proved functions and by plain ones.
+struct Form {
+    name: &'static str,
+    largest: usize,
+    proved: (ProvedWrite, ProvedRead),
+    plain: (
+        fn(&mut [u8], &[Numbers], &Strings) -> usize,
+        fn(&[u8], &[usize]) -> u64,
+    ),
+}
+
+const FORMS: [Form; 4] = [
+    Form {
+        name: "messages",
+        largest: 127,
+        proved: (forms_write_messages, forms_read_messages),
+        plain: (write_messages, read_messages),
+    },
+    Form {
+        name: "acks",
+        largest: 117,
+        proved: (forms_write_acks, forms_read_records),
+        plain: (write_acks, read_records),
+    },
+    Form {
+        name: "certificates",
+        largest: 1068,
+        proved: (forms_write_certified, forms_read_records),
+        plain: (write_certified, read_records),
+    },
+    Form {
+        name: "tips",
+        largest: 10,
+        proved: (forms_write_tips, forms_read_records),
+        plain: (write_tips, read_records),
+    },
+];
+
+/// So many of a form are written and read, so often: 1,048,576.
+const COUNT: usize = 4096;
+const ROUNDS: usize = 256;
+
+fn print(what: &str, name: &str, best: [f64; 2]) {
+    let [proved, plain] = best.map(|time| (COUNT * ROUNDS) as f64 / time / 1e6);
+    let ratio = proved / plain;
+    println!(
+        "{what} {name:12} proved {proved:6.1}, plain {plain:6.1} million a second, ratio {ratio:.2}"
+    );
+}
+
+/// Writes a list of a form into a buffer by each side, which have to leave the same bytes, and reads them by each.
+fn race_form(form: &Form, all: &[Numbers], strings: &Strings) {
+    let (proved_write, proved_read) = form.proved;
+    let (plain_write, plain_read) = form.plain;
+    let mut one = vec![0; form.largest];
+    let lens: Vec<_> = all
+        .chunks(1)
+        .map(|one_of| plain_write(&mut one, one_of, strings))
+        .collect();
+    let room = lens.iter().sum();
+    let (mut left, mut right) = (vec![0; room], vec![0; room]);
+    let best = race([
+        &mut || {
+            (0..ROUNDS)
+                .map(|_| unsafe {
+                    proved_write(left.as_mut_ptr(), room, all.as_ptr(), all.len(), strings)
+                })
+                .all(|len| len == room)
+        },
+        &mut || (0..ROUNDS).all(|_| plain_write(&mut right, all, strings) == room),
+    ]);
+    assert!(left == right, "the two write different bytes");
+    print("write", form.name, best);
+    let best = race([
+        &mut || {
+            (0..ROUNDS)
+                .map(|_| unsafe { proved_read(left.as_ptr(), room, lens.as_ptr(), lens.len()) })
+                .fold(0, u64::wrapping_add)
+        },
+        &mut || {
+            (0..ROUNDS)
+                .map(|_| plain_read(&right, &lens))
+                .fold(0, u64::wrapping_add)
+        },
+    ]);
+    print("read ", form.name, best);
+}
+
+fn main() {
+    let mut draw = Draw::new();
+    let strings = Strings {
+        digest: std::array::from_fn(|_| draw.next() as u8),
+        signature: std::array::from_fn(|_| draw.next() as u8),
+        certificate: std::array::from_fn(|_| draw.next() as u8),
+    };
+    for bits in [7, 28, 62] {
+        println!("numbers up to {bits} bits");
+        let all: Vec<_> = (0..COUNT)
+            .map(|_| Numbers {
+                tip: draw.number(bits),
+                height: draw.number(bits),
+                epoch: draw.number(bits),
+                signer: draw.next() % 16,
+            })
+            .collect();
+        for form in &FORMS {
+            race_form(form, &all, &strings);
+        }
+    }
+}
