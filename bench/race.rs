@@ -1,55 +1,40 @@
-//! What the programs of this folder share: numbers drawn from a seed, the processor's time, and races.
+//! What the programs of this folder share: the processor's time, and races.
 
 unsafe extern "C" {
     fn clock_gettime(clock: i32, time: &mut [i64; 2]) -> i32;
 }
 
-/// The processor's time that this thread has had, in seconds: what else runs on the machine meanwhile does not count.
-pub fn now() -> f64 {
+/// The processor's time that this thread has had, in seconds: what else runs on the machine does not count.
+fn now() -> f64 {
     const THREAD: i32 = 3;
     let mut time = [0; 2];
     assert_eq!(unsafe { clock_gettime(THREAD, &mut time) }, 0);
     time[0] as f64 + time[1] as f64 / 1e9
 }
 
-/// Pseudo-random numbers from a fixed seed.
-pub struct Draw(u64);
-
-impl Draw {
-    pub fn new() -> Self {
-        Self(0x9e37_79b9_7f4a_7c15)
-    }
-
-    pub fn next(&mut self) -> u64 {
-        self.0 ^= self.0 << 13;
-        self.0 ^= self.0 >> 7;
-        self.0 ^= self.0 << 17;
-        self.0
-    }
-
-    /// A number of at most so many bits, each count of bits as often as another.
-    pub fn number(&mut self, bits: u64) -> u64 {
-        match self.next() % (bits + 1) {
-            0 => 0,
-            bits => self.next() >> (64 - bits),
-        }
-    }
+fn are_same<T: PartialEq>(all: &[T]) -> bool {
+    all.windows(2).all(|pair| pair[0] == pair[1])
 }
 
-/// How often each work is done; the shortest time counts.
-const TURNS: usize = 15;
-
-/// Does two works in turns, which have to answer the same, and answers the shortest time of each, in seconds.
-pub fn race<T: PartialEq>(mut works: [&mut dyn FnMut() -> T; 2]) -> [f64; 2] {
-    let mut best = [f64::MAX; 2];
-    for _ in 0..TURNS {
-        let [first, second] = [0, 1].map(|i| {
-            let start = now();
-            let answer = works[i]();
-            best[i] = best[i].min(now() - start);
+/// Lets each do its work on `start` in a memory of its own, in turns. They have to answer the same and to leave the same.
+/// Answers the shortest time of each, in seconds, and what they leave.
+pub fn race<M: Copy + PartialEq, T: PartialEq, const N: usize>(
+    turns: usize,
+    start: &[M],
+    works: [&dyn Fn(&mut [M]) -> T; N],
+) -> ([f64; N], Vec<M>) {
+    let mut left = vec![start.to_vec(); N];
+    let mut best = [f64::MAX; N];
+    for _ in 0..turns {
+        let answers: [T; N] = std::array::from_fn(|i| {
+            left[i].copy_from_slice(start);
+            let before = now();
+            let answer = works[i](&mut left[i]);
+            best[i] = best[i].min(now() - before);
             answer
         });
-        assert!(first == second, "the two answer differently");
+        assert!(are_same(&answers), "they answer differently");
+        assert!(are_same(&left), "they leave different memories");
     }
-    best
+    (best, left.swap_remove(0))
 }

@@ -7,7 +7,7 @@ use plain::{
     Ack, Activity, Fault, NewAck, NewActivity, NewCertified, NewTipAck, Part, Short, TipAck,
 };
 use plain::{read_activity, read_message, write_activity, write_message};
-use race::{Draw, race};
+use race::race;
 
 /// The numbers of a message or of a record.
 #[repr(C)]
@@ -221,6 +221,7 @@ const FORMS: [Form; 4] = [
 /// So many of a form are written and read, so often: 1,048,576.
 const COUNT: usize = 4096;
 const ROUNDS: usize = 256;
+const TURNS: usize = 15;
 
 fn print(what: &str, name: &str, best: [f64; 2]) {
     let [proved, plain] = best.map(|time| (COUNT * ROUNDS) as f64 / time / 1e6);
@@ -230,7 +231,7 @@ fn print(what: &str, name: &str, best: [f64; 2]) {
     );
 }
 
-/// Writes a list of a form into a buffer by each side, which have to leave the same bytes, and reads them by each.
+/// Writes a list of a form by each side, and reads what was written by each.
 fn race_form(form: &Form, all: &[Numbers], strings: &Strings) {
     let (proved_write, proved_read) = form.proved;
     let (plain_write, plain_read) = form.plain;
@@ -239,37 +240,65 @@ fn race_form(form: &Form, all: &[Numbers], strings: &Strings) {
         .chunks(1)
         .map(|one_of| plain_write(&mut one, one_of, strings))
         .collect();
-    let room = lens.iter().sum();
-    let (mut left, mut right) = (vec![0; room], vec![0; room]);
-    let best = race([
-        &mut || {
-            (0..ROUNDS)
-                .map(|_| unsafe {
-                    proved_write(left.as_mut_ptr(), room, all.as_ptr(), all.len(), strings)
-                })
-                .all(|len| len == room)
-        },
-        &mut || (0..ROUNDS).all(|_| plain_write(&mut right, all, strings) == room),
-    ]);
-    assert!(left == right, "the two write different bytes");
+    let rounds = |work: &dyn Fn() -> u64| (0..ROUNDS).map(|_| work()).fold(0, u64::wrapping_add);
+    let (best, written) = race(
+        TURNS,
+        &vec![0; lens.iter().sum()],
+        [
+            &|out| {
+                (0..ROUNDS)
+                    .map(|_| unsafe {
+                        proved_write(
+                            out.as_mut_ptr(),
+                            out.len(),
+                            all.as_ptr(),
+                            all.len(),
+                            strings,
+                        )
+                    })
+                    .sum::<usize>()
+            },
+            &|out| (0..ROUNDS).map(|_| plain_write(out, all, strings)).sum(),
+        ],
+    );
     print("write", form.name, best);
-    let best = race([
-        &mut || {
-            (0..ROUNDS)
-                .map(|_| unsafe { proved_read(left.as_ptr(), room, lens.as_ptr(), lens.len()) })
-                .fold(0, u64::wrapping_add)
-        },
-        &mut || {
-            (0..ROUNDS)
-                .map(|_| plain_read(&right, &lens))
-                .fold(0, u64::wrapping_add)
-        },
-    ]);
+    let (best, _) = race(
+        TURNS,
+        &written,
+        [
+            &|bytes| {
+                rounds(&|| unsafe {
+                    proved_read(bytes.as_ptr(), bytes.len(), lens.as_ptr(), lens.len())
+                })
+            },
+            &|bytes| rounds(&|| plain_read(bytes, &lens)),
+        ],
+    );
     print("read ", form.name, best);
 }
 
+/// Pseudo-random numbers from a fixed seed.
+struct Draw(u64);
+
+impl Draw {
+    fn next(&mut self) -> u64 {
+        self.0 ^= self.0 << 13;
+        self.0 ^= self.0 >> 7;
+        self.0 ^= self.0 << 17;
+        self.0
+    }
+
+    /// A number of at most so many bits, each count of bits as often as another.
+    fn number(&mut self, bits: u64) -> u64 {
+        match self.next() % (bits + 1) {
+            0 => 0,
+            bits => self.next() >> (64 - bits),
+        }
+    }
+}
+
 fn main() {
-    let mut draw = Draw::new();
+    let mut draw = Draw(0x9e37_79b9_7f4a_7c15);
     let strings = Strings {
         digest: std::array::from_fn(|_| draw.next() as u8),
         signature: std::array::from_fn(|_| draw.next() as u8),
