@@ -82,7 +82,7 @@ fn fill<M: Medium>(
     );
     print(&format!("append, {what}"), count, best);
     let (best, _) = race(
-        3,
+        5,
         &full,
         [
             &|medium| unsafe { proved_read(medium.as_mut_ptr(), medium.len(), usize::MAX) },
