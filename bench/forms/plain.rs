@@ -101,6 +101,7 @@ impl<'a> Reader<'a> {
         }
     }
 
+    #[inline(always)]
     fn ack(&mut self, most: u64) -> Result<Ack<'a>, Fault> {
         Ok(Ack {
             height: self.uint(Field::Height, most)?,
@@ -241,6 +242,7 @@ impl<'a> Writer<'a> {
         self.at += bytes.len();
     }
 
+    #[inline(always)]
     fn ack(&mut self, ack: &NewAck<'_>) {
         self.uint(ack.height);
         self.bytes(ack.digest);
