@@ -73,10 +73,14 @@ fn sum_of_ack(ack: Ack<'_>) -> u64 {
     numbers ^ sum_of_part(ack.digest) ^ sum_of_part(ack.signature) << 8
 }
 
+fn sum_of_fault(fault: Fault) -> u64 {
+    fault.at as u64 ^ (fault.field as u64) << 32
+}
+
 fn sum_of_message(read: Result<TipAck<'_>, Fault>) -> u64 {
     match read {
         Ok(message) => message.tip ^ sum_of_ack(message.ack),
-        Err(fault) => fault.at as u64,
+        Err(fault) => sum_of_fault(fault),
     }
 }
 
@@ -89,7 +93,7 @@ fn sum_of_record(read: Result<Activity<'_>, Fault>) -> u64 {
                 ^ sum_of_part(certified.certificate) << 8
         }
         Ok(Activity::Tip(tip)) => tip,
-        Err(fault) => fault.at as u64,
+        Err(fault) => sum_of_fault(fault),
     }
 }
 
@@ -275,6 +279,37 @@ fn race_form(form: &Form, all: &[Numbers], strings: &Strings) {
         ],
     );
     print("read ", form.name, best);
+    compare_changed(form, &written, &lens);
+}
+
+/// Sees that both sides still read the same when what was written is cut, longer, or a few of its bytes are others.
+fn compare_changed(form: &Form, written: &[u8], lens: &[usize]) {
+    let (_, proved_read) = form.proved;
+    let (_, plain_read) = form.plain;
+    let mut draw = Draw(0x2545_f491_4f6c_dd1d);
+    let mut rest = written;
+    for len in lens {
+        let (item, behind) = rest.split_at(*len);
+        for changes in [0, 1, 1, 1, 2, 3] {
+            let mut bytes = item.to_vec();
+            for _ in 0..changes {
+                let at = draw.next() as usize % len;
+                let any = draw.next() as u8;
+                bytes[at] = [0, 1, 2, 0x7f, 0x80, 0x81, 0xff, any][draw.next() as usize % 8];
+            }
+            bytes.push(draw.next() as u8);
+            for lens in [draw.next() as usize % len, *len, *len + 1].map(|len| [len]) {
+                let proved =
+                    unsafe { proved_read(bytes.as_ptr(), bytes.len(), lens.as_ptr(), lens.len()) };
+                assert_eq!(
+                    proved,
+                    plain_read(&bytes, &lens),
+                    "they read {bytes:?} differently"
+                );
+            }
+        }
+        rest = behind;
+    }
 }
 
 /// Pseudo-random numbers from a fixed seed.
