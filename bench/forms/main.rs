@@ -63,6 +63,23 @@ unsafe extern "C" {
     ) -> usize;
 }
 
+// SAFETY, here and below: the slices are lent for the call, which is proved to stay inside them.
+fn call_read(read: ProvedRead, bytes: &[u8], lens: &[usize]) -> u64 {
+    unsafe { read(bytes.as_ptr(), bytes.len(), lens.as_ptr(), lens.len()) }
+}
+
+fn call_write(write: ProvedWrite, out: &mut [u8], all: &[Numbers], strings: &Strings) -> usize {
+    unsafe {
+        write(
+            out.as_mut_ptr(),
+            out.len(),
+            all.as_ptr(),
+            all.len(),
+            strings,
+        )
+    }
+}
+
 fn sum_of_part(part: Part<'_>) -> u64 {
     let last = part.bytes.last().copied().unwrap_or(0);
     part.at as u64 ^ (part.bytes.len() as u64) << 16 ^ u64::from(last) << 32
@@ -235,6 +252,10 @@ fn print(what: &str, name: &str, best: [f64; 2]) {
     );
 }
 
+fn rounds<T>(work: impl FnMut(usize) -> T) -> impl Iterator<Item = T> {
+    (0..ROUNDS).map(work)
+}
+
 /// Writes a list of a form by each side, and reads what was written by each.
 fn race_form(form: &Form, all: &[Numbers], strings: &Strings) {
     let (proved_write, proved_read) = form.proved;
@@ -244,25 +265,12 @@ fn race_form(form: &Form, all: &[Numbers], strings: &Strings) {
         .chunks(1)
         .map(|one_of| plain_write(&mut one, one_of, strings))
         .collect();
-    let rounds = |work: &dyn Fn() -> u64| (0..ROUNDS).map(|_| work()).fold(0, u64::wrapping_add);
     let (best, written) = race(
         TURNS,
         &vec![0; lens.iter().sum()],
         [
-            &|out| {
-                (0..ROUNDS)
-                    .map(|_| unsafe {
-                        proved_write(
-                            out.as_mut_ptr(),
-                            out.len(),
-                            all.as_ptr(),
-                            all.len(),
-                            strings,
-                        )
-                    })
-                    .sum::<usize>()
-            },
-            &|out| (0..ROUNDS).map(|_| plain_write(out, all, strings)).sum(),
+            &|out| rounds(|_| call_write(proved_write, out, all, strings)).sum::<usize>(),
+            &|out| rounds(|_| plain_write(out, all, strings)).sum(),
         ],
     );
     print("write", form.name, best);
@@ -270,12 +278,8 @@ fn race_form(form: &Form, all: &[Numbers], strings: &Strings) {
         TURNS,
         &written,
         [
-            &|bytes| {
-                rounds(&|| unsafe {
-                    proved_read(bytes.as_ptr(), bytes.len(), lens.as_ptr(), lens.len())
-                })
-            },
-            &|bytes| rounds(&|| plain_read(bytes, &lens)),
+            &|bytes| rounds(|_| call_read(proved_read, bytes, &lens)).fold(0, u64::wrapping_add),
+            &|bytes| rounds(|_| plain_read(bytes, &lens)).fold(0, u64::wrapping_add),
         ],
     );
     print("read ", form.name, best);
@@ -284,8 +288,6 @@ fn race_form(form: &Form, all: &[Numbers], strings: &Strings) {
 
 /// Sees that both sides still read the same when what was written is cut, longer, or a few of its bytes are others.
 fn compare_changed(form: &Form, written: &[u8], lens: &[usize]) {
-    let (_, proved_read) = form.proved;
-    let (_, plain_read) = form.plain;
     let mut draw = Draw(0x2545_f491_4f6c_dd1d);
     let mut rest = written;
     for len in lens {
@@ -298,13 +300,12 @@ fn compare_changed(form: &Form, written: &[u8], lens: &[usize]) {
                 bytes[at] = [0, 1, 2, 0x7f, 0x80, 0x81, 0xff, any][draw.next() as usize % 8];
             }
             bytes.push(draw.next() as u8);
-            for lens in [draw.next() as usize % len, *len, *len + 1].map(|len| [len]) {
-                let proved =
-                    unsafe { proved_read(bytes.as_ptr(), bytes.len(), lens.as_ptr(), lens.len()) };
+            for part in [draw.next() as usize % len, *len, *len + 1] {
+                let proved = call_read(form.proved.1, &bytes, &[part]);
+                let plain = form.plain.1(&bytes, &[part]);
                 assert_eq!(
-                    proved,
-                    plain_read(&bytes, &lens),
-                    "they read {bytes:?} differently"
+                    proved, plain,
+                    "they read {part} bytes of {bytes:?} differently"
                 );
             }
         }

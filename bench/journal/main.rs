@@ -36,7 +36,8 @@ unsafe extern "C" {
     fn slots_read(medium: *mut Slot, len: usize, most: usize) -> u64;
 }
 
-fn proved_append<M>(
+// SAFETY, here and below: the slices are lent for the call, which is proved to stay inside them; any bytes may be lent.
+fn call_append<M>(
     append: ProvedAppend<M>,
     medium: &mut [M],
     sections: &[u64],
@@ -54,6 +55,10 @@ fn proved_append<M>(
     }
 }
 
+fn call_read<M>(read: ProvedRead<M>, medium: &mut [M]) -> u64 {
+    unsafe { read(medium.as_mut_ptr(), medium.len(), usize::MAX) }
+}
+
 fn print<const N: usize>(what: &str, count: usize, best: [f64; N]) {
     let each = best.map(|time| format!("{:.3}", time / count as f64 * 1e6));
     let ratio = best[1] / best[0];
@@ -69,14 +74,14 @@ fn fill<M: Medium>(
     pieces: usize,
     sections: &[u64],
     bytes: &[u8],
-    (proved_append_of, proved_read): (ProvedAppend<M>, ProvedRead<M>),
+    (proved_append, proved_read): (ProvedAppend<M>, ProvedRead<M>),
 ) {
     let count = sections.len();
     let (best, full) = race(
         15,
         &vec![M::FREE; pieces],
         [
-            &|medium| proved_append(proved_append_of, medium, sections, bytes),
+            &|medium| call_append(proved_append, medium, sections, bytes),
             &|medium| append_all(medium, sections, bytes),
         ],
     );
@@ -85,7 +90,7 @@ fn fill<M: Medium>(
         5,
         &full,
         [
-            &|medium| unsafe { proved_read(medium.as_mut_ptr(), medium.len(), usize::MAX) },
+            &|medium| call_read(proved_read, medium),
             &|medium| read_all(medium),
             &|medium| M::walk(medium),
         ],
@@ -117,7 +122,7 @@ fn append_beside(areas: usize, others: u64, bytes: &[u8]) {
         [
             &|medium| {
                 again(medium, &|medium| {
-                    proved_append(areas_append, medium, &own, bytes)
+                    call_append(areas_append, medium, &own, bytes)
                 })
             },
             &|medium| again(medium, &|medium| append_all(medium, &own, bytes)),
