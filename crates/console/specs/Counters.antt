@@ -1,20 +1,15 @@
 -- What a console counts. Assumes nothing.
-use Rattle.std.specs.Prelude.{ℕ, ◌+◌, ◌-◌, ◌^◌, min, Bool, true, false, cond, Option, Some, None, Result, Ok, Err}
-use Rattle.console_tips.specs.declared.answers.Answer.{Answer}
-use Rattle.console_tips.specs.declared.answers.Answer.TheVariants.{Seated, Counted, NotCounted}
+use Rattle.std.specs.Prelude.{ℕ, ◌+◌, ◌-◌, ◌^◌, min, Bool, true, false, cond, Option, Some, Result, Ok, Err}
+use Rattle.console_tips.specs.declared.answers.Answer.TheVariants.{Counted}
+use Rattle.console.specs.declared.answers.Answer.{Answer}
+use Rattle.console.specs.declared.answers.Answer.TheVariants.{Tips}
 use Rattle.console.specs.declared.refusals.Refused.{Refused}
 use Rattle.console.specs.declared.summaries.Counts.{Counts}
 
 -- whether a tip counted
-abbrev pub answer_counts : Answer → Bool
-answer_counts (Seated n f q t) = false
-answer_counts (Counted was t) = true
-answer_counts (NotCounted t) = false
-
 abbrev pub counts : Result (Option Answer) Refused → Bool
-counts (Ok None) = false
-counts (Ok (Some a)) = answer_counts a
-counts (Err e) = false
+counts (Ok (Some (Tips (Counted was t)))) = true
+counts r = false
 
 -- whether the line was refused
 abbrev pub refuses : Result (Option Answer) Refused → Bool

@@ -1,3 +1,4 @@
+pub mod States
 pub mod Heard
 pub mod Counters
 pub mod Printed

@@ -10,6 +10,10 @@ use tip_commands::Fault;
 pub enum Refused<'a> {
     /// The signers' part refuses it.
     Tips(Refusal),
+    /// The part for the written forms refuses it.
+    Forms(console_forms::Refusal),
+    /// The part for providers refuses it.
+    Providers(console_provider::Refusal),
     /// No command has this name.
     Unknown(&'a [u8]),
 }
@@ -32,6 +36,26 @@ impl From<Fault> for Refused<'_> {
 
     fn from(fault: Fault) -> Self {
         Self::Tips(Refusal::Words(fault))
+    }
+}
+
+impl From<console_forms::Refusal> for Refused<'_> {
+    ghost use Rattle.console.specs.declared.refusals.Refused.TheVariants.{Forms};
+
+    ghost from_gives = { λ refusal refused. refused ≡ Forms refusal };
+
+    fn from(refusal: console_forms::Refusal) -> Self {
+        Self::Forms(refusal)
+    }
+}
+
+impl From<console_provider::Refusal> for Refused<'_> {
+    ghost use Rattle.console.specs.declared.refusals.Refused.TheVariants.{Providers};
+
+    ghost from_gives = { λ refusal refused. refused ≡ Providers refusal };
+
+    fn from(refusal: console_provider::Refusal) -> Self {
+        Self::Providers(refusal)
     }
 }
 
@@ -64,6 +88,8 @@ impl fmt::Display for Refused<'_> {
     fn fmt<W: fmt::Write>(&self, f: &mut fmt::Formatter<W>) -> fmt::Result {
         match *self {
             Self::Tips(refusal) => write!(f, "{refusal}"),
+            Self::Forms(refusal) => write!(f, "{refusal}"),
+            Self::Providers(refusal) => write!(f, "{refusal}"),
             Self::Unknown(name) => {
                 let name = Excerpt(name);
                 write!(f, "refused: no command is named {name}, --help lists them")

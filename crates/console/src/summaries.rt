@@ -1,8 +1,7 @@
 //! What a console has seen, and what is printed of it at the end.
 ghost use Rattle.std.specs.Prelude.{◌≡◌, Some};
 
-use crate::Refused;
-use console_tips::Answer;
+use crate::{Answer, Refused};
 use std::fmt;
 use types::Height;
 
@@ -35,7 +34,7 @@ impl Counts {
     {
         let mut counts = self;
         counts.lines = counts.lines.saturating_add(1);
-        if let Ok(Some(Answer::Counted { .. })) = reply {
+        if let Ok(Some(Answer::Tips(console_tips::Answer::Counted { .. }))) = reply {
             counts.counted = counts.counted.saturating_add(1);
         }
         if reply.is_err() {

@@ -12,7 +12,30 @@ signers KEY KEY ..   the signers, by their numbers: 2 to 16, none twice, in any 
                      the first such line seats them, a later one of as many changes the set
 tip KEY HEIGHT       the signer tells that it has reached the height
 
-A number is decimal and has at most 64 bits. Empty lines and lines that begin with # are passed over.
+decode record HEX, decode message HEX
+                     what the bytes say as a record or as a message, or the field and the byte
+                     at which they stop to say something
+encode tip HEIGHT, encode ack HEIGHT DIGEST EPOCH SIGNER SIGNATURE,
+encode certified HEIGHT DIGEST CERTIFICATE
+                     the bytes of the record
+encode message TIP HEIGHT DIGEST EPOCH SIGNER SIGNATURE
+                     the bytes of the message
+
+provider listed, provider pooled
+                     begins anew with this provider, of no epochs yet
+epoch-set E me=K KEY KEY .., epoch-set E me=none KEY KEY ..
+                     the signers of epoch E, above all others so far: 2 to 16 keys in ascending order,
+                     64 hex digits each, or kN for 31 zero bytes and N; signer K of them is the own one
+sign E HEIGHT DIGEST
+                     the own signature
+accepts E SIGNER HEIGHT DIGEST SIGNATURE
+                     whether the signature is accepted
+assemble E SIGNER:SIGNATURE ..
+                     the certificate that the signatures make
+accepts-certificate E HEIGHT DIGEST CERTIFICATE
+                     whether the certificate is accepted, or why it is not
+
+A number is decimal and has at most 64 bits. Bytes are in hex, two digits each, and - stands for none. Empty lines and lines that begin with # are passed over.
 A line that cannot be done is answered by `refused`, and changes nothing.
 The last line printed is a summary.";
 
@@ -44,7 +67,7 @@ pub fn run(rt: &HostRuntime) -> anyhow::Result<()> {
         println!(rt; "{HELP}")?;
         return Ok(());
     }
-    let mut console = Console::new();
+    let mut console = Console::new(rt.alloc());
     for line in BufReader::new(rt.alloc(), rt.stdin())?.split(rt.alloc(), b'\n') {
         let line = line?;
         answer(rt, &mut console, &line)?;
@@ -55,12 +78,12 @@ pub fn run(rt: &HostRuntime) -> anyhow::Result<()> {
 // kept: a loop beside that of `run`: one `fn lines(rt, each: impl FnMut(&[u8]) -> anyhow::Result<()>)` for both is longer than a loop
 /// Runs recorded sessions over standard input, one after the other: a line `new` ends one and begins the next.
 pub fn replay(rt: &HostRuntime) -> anyhow::Result<()> {
-    let mut console = Console::new();
+    let mut console = Console::new(rt.alloc());
     for line in BufReader::new(rt.alloc(), rt.stdin())?.split(rt.alloc(), b'\n') {
         let line = line?;
         if line.as_slice() == b"new".as_slice() {
             end(rt, &console)?;
-            console = Console::new();
+            console = Console::new(rt.alloc());
             continue;
         }
         answer(rt, &mut console, &line)?;

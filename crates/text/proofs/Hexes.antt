@@ -1,14 +1,18 @@
 -- Hex digit by digit.
-use Rattle.std.proofs.Common.{◌≡◌, ℕ, ◌+◌, ◌/◌, ◌%◌, ◌^◌, ◌-◌, ◌<◌, false, List, [], ◌∷◌, ◌++◌, length, get_or, take, Some, None, All, Result, Ok, Err, sym, refl, ap, ◌∙◌, arith}
+use Rattle.std.proofs.Common.{◌≡◌, ℕ, suc, ◌+◌, ◌/◌, ◌%◌, ◌^◌, ◌-◌, ◌<◌, Bool, false, cond, ◌&&◌, ◌==◌, List, [], ◌∷◌, ◌++◌, length, get_or, take, Some, None, is_some, All, Option, Result, Ok, Err, sym, refl, ap, ◌∙◌, arith}
+use Rattle.std.proofs.lemmas.Grind.{common_steps}
+use Rattle.std.specs.Char.{is_ascii_hexdigit}
+use Rattle.std.specs.List.{list_all}
+use Rattle.std.specs.Option.{option_map}
 use Rattle.std.proofs.lemmas.List.{take_more}
 use Rattle.std.proofs.lemmas.List.Elements.{All-head, All-tail}
 use Rattle.std.proofs.lemmas.Bool.{cond-false, and_right}
 use Rattle.std.proofs.lemmas.Fmt.{hex_byte}
 use Rattle.std.specs.Fmt.{padded_integral, format_spec, digits}
 use Rattle.std.specs.Result.{result_ok}
-use Rattle.hex.specs.Hex.{◌>>=◌, hex_digit_value, pair_value, decode_pairs, decode_of}
+use Rattle.hex.specs.Hex.{◌>>=◌, hex_digit_value, pair_value, decode_pairs, decode_of, decode_sized}
 use Rattle.hex.specs.declared.error.FromHexError.{FromHexError}
-use Rattle.text.specs.Hex.{nibble, joined, octet, before, octets, digit, spelled, HexReadsBack}
+use Rattle.text.specs.Hex.{nibble, joined, octet, before, octets, sized, digit, spelled, HexReadsBack}
 
 -- a digit has one value here and in the library
 nibble-hex : (c : ℕ) → nibble c ≡ hex_digit_value c
@@ -39,6 +43,34 @@ octets_odd (a ∷ (b ∷ cs)) o = let e = octets_odd cs (omega arith) in rw e gr
 -- what the library reads
 pub octets-decode : (ds : List ℕ) → octets ds ≡ result_ok (decode_of ds)
 octets-decode ds = grind (arith, octets_odd ds, octets-hex 0 ds)
+
+nibble-is : (c : ℕ) → is_some (nibble c) ≡ is_ascii_hexdigit c
+nibble-is c = grind arith
+
+octet-is : (a b : ℕ) → is_some (octet a b) ≡ (is_ascii_hexdigit a && is_ascii_hexdigit b)
+octet-is a b =
+    (λ i. some_of (nibble a) (nibble b) i) ∙ (λ i. nibble-is a i && nibble-is b i)
+  where
+    some_of : (h l : Option ℕ) → is_some (joined h l) ≡ (is_some h && is_some l)
+    some_of None l = refl
+    some_of (Some h) None = refl
+    some_of (Some h) (Some l) = refl
+
+-- a byte in front of those of n digits
+before-len : (o : Option ℕ) (p : Option (List ℕ)) (n : ℕ) (x y z : Bool) → is_some o ≡ (x && y) → option_map length p ≡ cond (n % 2 == 0 && z) (Some (n / 2)) None
+    → option_map length (before o p) ≡ cond ((suc (suc n)) % 2 == 0 && (x && (y && z))) (Some ((suc (suc n)) / 2)) None
+before-len o p n x y z s e = grind (arith, common_steps)
+
+-- how many bytes digits spell
+pub octets-len : (ds : List ℕ) → option_map length (octets ds) ≡ cond (length ds % 2 == 0 && list_all is_ascii_hexdigit ds) (Some (length ds / 2)) None
+unfolding octets
+octets-len [] = refl
+octets-len (a ∷ []) = refl
+octets-len (a ∷ (b ∷ cs)) = before-len (octet a b) (octets cs) (length cs) _ _ _ (octet-is a b) (octets-len cs)
+
+-- what the library reads into an array
+pub octets-sized : (n : ℕ) (ds : List ℕ) → sized n (octets ds) ≡ result_ok (decode_sized ds n)
+octets-sized n ds = grind (arith, common_steps, octets_odd ds, octets-hex 0 ds, octets-len ds)
 
 nibble-digit : (d : ℕ) → d < 16 → nibble (digit d) ≡ Some d
 nibble-digit d l = grind arith

@@ -1,5 +1,5 @@
 -- Bytes spelled in hex. Assumes nothing.
-use Rattle.std.specs.Prelude.{◌≡◌, ℕ, ◌+◌, ◌-◌, ◌*◌, ◌/◌, ◌%◌, ◌<◌, cond, List, [], ◌∷◌, Some, None, All, Option, nat_lt}
+use Rattle.std.specs.Prelude.{◌≡◌, ℕ, ◌+◌, ◌-◌, ◌*◌, ◌/◌, ◌%◌, ◌<◌, cond, List, [], ◌∷◌, length, Some, None, All, Option, ◌==◌, nat_lt}
 use Rattle.std.specs.Int.{is_in_range}
 use Rattle.std.specs.Str.{bytes_eq}
 
@@ -31,6 +31,11 @@ octets (a ∷ (b ∷ cs)) = before (octet a b) (octets cs)
 -- the bytes of a word: `-` stands for none
 abbrev pub bytes_of : List ℕ → Option (List ℕ)
 bytes_of word = cond (bytes_eq word (45 ∷ [])) (Some []) (octets word)
+
+-- bytes, where they are n
+abbrev pub sized : ℕ → Option (List ℕ) → Option (List ℕ)
+sized n None = None
+sized n (Some bs) = cond (length bs == n) (Some bs) None
 
 -- the digit that is written
 abbrev pub digit : ℕ → ℕ

@@ -6,5 +6,5 @@ mod hexadecimal;
 mod words;
 
 pub use decimal::{number, number_reads_back};
-pub use hexadecimal::{Hex, hex_reads_back, read_hex};
+pub use hexadecimal::{Hex, hex_array, hex_len, hex_reads_back, read_hex};
 pub use words::{Words, count_words, split_word};

@@ -1,0 +1,4 @@
+pub mod Fields
+pub mod Lines
+pub mod Results
+pub mod Printed
