@@ -1,5 +1,5 @@
 -- The shortest spelling of a number, group by group, and its length.
-use Rattle.std.proofs.Common.{◌≡◌, ℕ, zero, suc, ◌+◌, ◌*◌, ◌/◌, ◌%◌, ◌^◌, ◌<◌, ◌≤◌, [], ◌∷◌, length, sym, refl, ap, ◌∙◌, ⊎_elim, arith, pow_mono}
+use Rattle.std.proofs.Common.{◌≡◌, ℕ, zero, suc, max, ◌+◌, ◌*◌, ◌/◌, ◌%◌, ◌^◌, ◌<◌, ◌≤◌, [], ◌∷◌, length, sym, refl, ap, ◌∙◌, ⊎_elim, arith, pow_mono}
 use native.Mathlib.Nat.{pow-succ'}
 use Rattle.std.proofs.lemmas.Bool.{lt-ltb, le-ltb, cases_lt}
 use Rattle.std.proofs.lemmas.Nat.{pow-add}
@@ -80,3 +80,9 @@ spell_bits n j low high =
     let p : 2 ^ (7 * k) ≤ 2 ^ j = pow_mono {i = 7 * k} {j = j} (omega arith) in
     let q : 2 ^ suc j ≤ 2 ^ (7 * (k + 1)) = pow_mono {i = suc j} {j = 7 * (k + 1)} (omega arith) in
     omega (arith, spell-least k n (omega (arith, groups-pow k)), length-spell k n (omega (arith, groups-pow (k + 1))))
+
+-- 0 has as many groups as 1
+pub spell_max : (n : ℕ) → length (spell n) ≡ length (spell (max n 1))
+unfolding spell
+spell_max zero = refl
+spell_max (suc n) = let e : suc n ≡ max (suc n) 1 = omega arith in ap (λ x. length (spell x)) e

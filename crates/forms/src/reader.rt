@@ -106,6 +106,7 @@ impl<'a> Reader<'a> {
     }
 
     /// The ack of a height up to `most` that comes next.
+    #[inline(always)]
     pub(crate) fn ack(&mut self, most: u64) -> Result<Ack<'a>, Fault>
         ensures { Takes (ack_up_to most) self.old (told_ack result) self.new }
     {

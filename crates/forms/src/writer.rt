@@ -71,6 +71,7 @@ impl<'a> Writer<'a> {
     }
 
     /// Writes an ack.
+    #[inline(always)]
     pub(crate) fn ack(&mut self, ack: &NewAck<'_>)
         requires { HasRoom (length (write_ack (ack_from ack.now))) self.old }
         ensures { Puts (write_ack (ack_from ack.now)) self.old self.new }

@@ -17,10 +17,7 @@ fn uint_len(n: u64) -> usize
     ensures len { result ≡ length (spell n) }
     ensures few { result ≤ 10 }
 {
-    if n == 0 {
-        return 1;
-    }
-    (70 - n.leading_zeros() as usize) / 7
+    (70 - n.max(1).leading_zeros() as usize) / 7
 }
 
 // kept: a length is asked for before there are a digest and a signature, so these take no `NewAck`, which holds them.

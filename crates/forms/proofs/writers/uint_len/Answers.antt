@@ -1,16 +1,16 @@
-use Rattle.std.proofs.Common.{◌≡◌, ◌+◌, ◌-◌, ◌/◌, length, sym, ap, arith}
+use Rattle.std.proofs.Common.{◌≡◌, ◌+◌, ◌-◌, ◌/◌, max, length, ap, ◌∙◌, arith}
 use lib.Count.{count_leading_zeros}
 use Rattle.std.proofs.lemmas.Nat.{leading_top}
-use Rattle.forms.proofs.Spelling.{spell_last, spell_bits}
+use Rattle.forms.specs.Uint.{spell}
+use Rattle.forms.proofs.Spelling.{spell_bits, spell_max}
 use Rattle.forms.proofs.writers.uint_len.Goals as goal
-
-pub returns-then-n-eq0 : goal.returns-then-n-eq0
-returns-then-n-eq0 c = let e = ap length (spell_last c.args.n (omega arith)) in record { len = sym e; few = omega arith }
 
 pub returns : goal.returns
 returns c =
-    let t = leading_top 64 c.args.n (omega arith) (omega arith) in
+    let m = c.max.result in
+    let t = leading_top 64 m (omega arith) (omega arith) in
     let j = t.0 in
-    let s = spell_bits c.args.n j t.2 t.3 in
-    let e : (70 - count_leading_zeros 64 c.args.n) / 7 ≡ j / 7 + 1 = omega (arith, t.1) in
+    let e : (70 - count_leading_zeros 64 m) / 7 ≡ j / 7 + 1 = omega (arith, t.1) in
+    let r : max c.args.n 1 ≡ m = omega arith in
+    let s : length (spell c.args.n) ≡ j / 7 + 1 = spell_max c.args.n ∙ ap (λ x. length (spell x)) r ∙ spell_bits m j t.2 t.3 in
     record { len = omega arith; few = omega (arith, t.1) }
