@@ -9,7 +9,18 @@ use crate::{Answer, Refusal};
 use mapped::{Body, MappedProvider};
 use provider::Provider;
 use provider_commands::Question;
-use types::{Epoch, Item};
+use types::{Digest, Epoch, Height, Item};
+
+/// The item of a height and its digest.
+fn item(height: Height, digest: &Digest) -> Item<'_>
+    ensures height { result.height ≡ height }
+    ensures digest { result.digest.now ≡ digest.now.bytes }
+{
+    Item {
+        height,
+        digest: &digest.bytes,
+    }
+}
 
 /// What the provider replies to a question about an epoch that it knows.
 fn answer<B: Body>(
@@ -21,12 +32,8 @@ fn answer<B: Body>(
 {
     match question {
         Question::Sign { height, digest } => {
-            let item = Item {
-                height: *height,
-                digest: &digest.bytes,
-            };
             let signature = provider
-                .sign(epoch, &item)
+                .sign(epoch, &item(*height, digest))
                 .ok_or(Refusal::NoOwnSigner(epoch))?;
             Ok(Answer::Signed(signature))
         }
@@ -36,11 +43,7 @@ fn answer<B: Body>(
             digest,
             signature,
         } => {
-            let item = Item {
-                height: *height,
-                digest: &digest.bytes,
-            };
-            if provider.accepts(epoch, *signer, &item, signature) {
+            if provider.accepts(epoch, *signer, &item(*height, digest), signature) {
                 Ok(Answer::Accepted)
             } else {
                 Ok(Answer::Rejected)
@@ -57,11 +60,7 @@ fn answer<B: Body>(
             digest,
             certificate,
         } => {
-            let item = Item {
-                height: *height,
-                digest: &digest.bytes,
-            };
-            match provider.check(epoch, &item, certificate) {
+            match provider.check(epoch, &item(*height, digest), certificate) {
                 Ok(()) => Ok(Answer::Accepted),
                 Err(reason) => Ok(Answer::Against(reason)),
             }
