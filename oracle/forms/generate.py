@@ -316,6 +316,8 @@ number(f"encode message x", 2, TOP)
 no_hex(f"encode certified 5 {DIGEST.hex()} x 00", 4)
 number(f"encode tip x 5", 2, TOP_RECORD)
 
+if len(sys.argv) != 2:
+    sys.exit("usage: generate.py FOLDER")
 LINES.append((None, f"{len(LINES)} lines, 0 tips counted, {REFUSED} refused, no safe tip"))
 with open(os.path.join(sys.argv[1], "stdin"), "w") as f:
     f.writelines(line + "\n" for line, _ in LINES if line is not None)
