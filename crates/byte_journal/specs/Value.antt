@@ -1,5 +1,5 @@
 -- What a byte journal is worth. Assumes nothing.
-use Rattle.std.specs.Prelude.{◌≡◌, ℕ, true, List, length, Ok, Err, Option, Result}
+use Rattle.std.specs.Prelude.{ℕ, true, List, length, Option}
 use Rattle.area.specs.Area.{Area}
 use Rattle.areas.specs.Plan.{plan, room}
 use Rattle.areas_writing.specs.Steps.{cost, unders}
@@ -7,8 +7,6 @@ use Rattle.areas_reading.specs.Overruns.{overrun}
 use Rattle.journal.specs.Log.{Bytes, Log}
 use Rattle.journal.specs.Steps.{Disk}
 use Rattle.journal.specs.declared.places.Overrun.{Overrun}
-use Rattle.journal.specs.declared.stops.Stop.{Stop}
-use Rattle.journal.specs.declared.stops.Stop.TheVariants.{Full, Pruned, Off}
 use Rattle.byte_journal.specs.declared.ByteJournal.{ByteJournal}
 use Rattle.byte_journal.specs.Sections.{sections}
 
@@ -31,13 +29,6 @@ append_cost s b bs = cost (plan bs) s (length b)
 -- how many stores it takes to prune the sections below s
 abbrev pub prune_cost : ℕ → List ℕ → ℕ
 prune_cost s bs = unders s (plan bs)
-
--- a refusal leaves every byte as it was
-abbrev pub Untouched : Result (Unit {0}) Stop → List ℕ → List ℕ → Type 0
-Untouched (Ok _) bs cs = Unit {0}
-Untouched (Err Full) bs cs = cs ≡ bs
-Untouched (Err Pruned) bs cs = cs ≡ bs
-Untouched (Err Off) bs cs = Unit {0}
 
 -- the bytes of a byte journal
 abbrev pub bytes_of : ByteJournal → List ℕ

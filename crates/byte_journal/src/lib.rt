@@ -6,9 +6,9 @@ ghost use Rattle.areas.specs.Plan.{rest_of};
 ghost use Rattle.journal.specs.Cuts.{Cut};
 ghost use Rattle.journal.specs.Laws.{Told};
 ghost use Rattle.journal.specs.Log.{Formed};
-ghost use Rattle.journal.specs.Steps.{Appended, Synced, AllSynced, Pruning, Reading, Steady, Clean};
+ghost use Rattle.journal.specs.Steps.{Appended, Synced, AllSynced, Pruning, Reading, Steady, Clean, Untouched};
 ghost use Rattle.power.specs.Power.{Powered};
-ghost use Rattle.byte_journal.specs.Value.{bytes_of, bound_of, power_of, name_of, disk_of, overrun_of, append_cost, prune_cost, Untouched};
+ghost use Rattle.byte_journal.specs.Value.{bytes_of, bound_of, power_of, name_of, disk_of, overrun_of, append_cost, prune_cost};
 
 use journal::{Journal, Overrun, Place, ReadStop, Record, Stop};
 

@@ -20,10 +20,10 @@ did_leaves read n v r w (t, shown, step, power) = (v.overrun, w.overrun, t, step
 did_leaves cut n v r w (told, step, clean, power) = step
 
 operated_leaves : (op : Op) (s : Stored) (c : Carried) (r : Result Answer Refusal) (t : Stored) (d : Carried) → OperatedIn op s c r t d → Leaves op (disk_in s c) (disk_in t d)
-operated_leaves op (in_slots xs) c r (in_slots ys) d (h, len) = did_leaves op (slots_cost op xs) (slots_value c xs) r (slots_value d ys) h
+operated_leaves op (in_slots xs) c r (in_slots ys) d (h, stays, len) = did_leaves op (slots_cost op xs) (slots_value c xs) r (slots_value d ys) h
 operated_leaves op (in_slots xs) c r (in_bytes cs) d h = absurd h
 operated_leaves op (in_bytes bs) c r (in_slots ys) d h = absurd h
-operated_leaves op (in_bytes bs) c r (in_bytes cs) d (h, len) = did_leaves op (bytes_cost op bs) (bytes_value c bs) r (bytes_value d cs) h
+operated_leaves op (in_bytes bs) c r (in_bytes cs) d (h, stays, len) = did_leaves op (bytes_cost op bs) (bytes_value c bs) r (bytes_value d cs) h
 
 -- lines are operations, and between them nothing changes
 pub lines_ran : (os : List Op) (h k : Held) → Lines os h k → Ran os (disk_of h) (disk_of k)

@@ -1,5 +1,5 @@
 -- The journal that is open, as a value: what its medium holds, its bound and its power. Assumes nothing.
-use Rattle.std.specs.Prelude.{◌≡◌, ℕ, Bool, List, length, None, Result}
+use Rattle.std.specs.Prelude.{◌≡◌, ℕ, Bool, List, length, None, Ok, Err, Result}
 use Rattle.byte_journal.specs.Value.{disk as bytes_disk, over as bytes_over, append_cost, prune_cost}
 use Rattle.journal.specs.Laws.{Op, append, prune}
 use Rattle.slots.specs.declared.slot.Slot.{Slot}
@@ -53,10 +53,17 @@ bytes_cost (append s b) bs = append_cost s b bs
 bytes_cost (prune s) bs = prune_cost s bs
 bytes_cost other bs = 0
 
+-- what an operation leaves of its medium as it was: all, but for an append that is done and for a prune
+abbrev pub Stays : {A : Type 0} → Op → Result Answer Refusal → A → A → Type 0
+Stays (append s b) (Ok a) old new = Unit {0}
+Stays (append s b) (Err e) old new = new ≡ old
+Stays (prune s) r old new = Unit {0}
+Stays other r old new = new ≡ old
+
 -- an operation on a journal in some medium, with what it goes on with; the medium stays as long as it is
 abbrev pub OperatedIn : Op → Stored → Carried → Result Answer Refusal → Stored → Carried → Type 0
-OperatedIn op (in_slots xs) c r (in_slots ys) d = Did op (slots_cost op xs) (slots_value c xs) r (slots_value d ys) × (length ys ≡ length xs)
-OperatedIn op (in_bytes bs) c r (in_bytes cs) d = Did op (bytes_cost op bs) (bytes_value c bs) r (bytes_value d cs) × (length cs ≡ length bs)
+OperatedIn op (in_slots xs) c r (in_slots ys) d = Did op (slots_cost op xs) (slots_value c xs) r (slots_value d ys) × Stays op r xs ys × (length ys ≡ length xs)
+OperatedIn op (in_bytes bs) c r (in_bytes cs) d = Did op (bytes_cost op bs) (bytes_value c bs) r (bytes_value d cs) × Stays op r bs cs × (length cs ≡ length bs)
 OperatedIn op s c r t d = ⊥
 
 -- an operation on the journal that is open

@@ -3,7 +3,7 @@ ghost use Rattle.std.specs.Prelude.{◌≡◌};
 ghost use Rattle.std.specs.Option.{option_map};
 ghost use Rattle.journal_commands.specs.Reading.{op_of};
 ghost use Rattle.console_journal.specs.Doing.{Did};
-ghost use Rattle.console_journal.specs.Held.{stored_in, fresh, held_of, slots_value, bytes_value, slots_cost, bytes_cost, OperatedIn, Operated};
+ghost use Rattle.console_journal.specs.Held.{stored_in, fresh, held_of, slots_value, bytes_value, slots_cost, bytes_cost, Stays, OperatedIn, Operated};
 ghost use Rattle.console_journal.specs.Obeying.{Damages, Shows, bytes_in};
 
 use crate::looks::{damage, show};
@@ -82,7 +82,8 @@ fn operate_slots(
     carried: &mut Carried,
     operation: &Operation,
 ) -> Result<Answer, Refusal>
-    ensures { Did (op_of operation.now) (slots_cost (op_of operation.now) slots.old) (slots_value carried.old slots.old) result (slots_value carried.new slots.new) }
+    ensures did { Did (op_of operation.now) (slots_cost (op_of operation.now) slots.old) (slots_value carried.old slots.old) result (slots_value carried.new slots.new) }
+    ensures stays { Stays (op_of operation.now) result slots.old slots.new }
 {
     let mut journal = SlotJournal::resume(slots, carried.bound, carried.power);
     let answer = on_slots(heap, &mut journal, operation);
@@ -99,7 +100,8 @@ fn operate_bytes(
     carried: &mut Carried,
     operation: &Operation,
 ) -> Result<Answer, Refusal>
-    ensures { Did (op_of operation.now) (bytes_cost (op_of operation.now) bytes.old) (bytes_value carried.old bytes.old) result (bytes_value carried.new bytes.new) }
+    ensures did { Did (op_of operation.now) (bytes_cost (op_of operation.now) bytes.old) (bytes_value carried.old bytes.old) result (bytes_value carried.new bytes.new) }
+    ensures stays { Stays (op_of operation.now) result bytes.old bytes.new }
 {
     let mut journal = ByteJournal::resume(bytes, carried.bound, carried.power);
     let answer = on_bytes(heap, &mut journal, operation);

@@ -5,7 +5,7 @@ ghost use Rattle.journal_commands.specs.Reading.{op_of};
 ghost use Rattle.byte_journal.specs.Value.{bytes_of, name_of as bytes_name};
 ghost use Rattle.slots.specs.Value.{slots_of, name_of as slots_name};
 ghost use Rattle.console_journal.specs.Doing.{told, Shown, Did};
-ghost use Rattle.console_journal.specs.Held.{slots_cost, bytes_cost};
+ghost use Rattle.console_journal.specs.Held.{slots_cost, bytes_cost, Stays};
 ghost use Rattle.console_journal.specs.Journaled.{slots_journal, bytes_journal};
 
 use crate::listings::list;
@@ -58,6 +58,7 @@ pub(crate) fn on_slots(
     operation: &Operation,
 ) -> Result<Answer, Refusal>
     ensures did { Did (op_of operation.now) (slots_cost (op_of operation.now) (slots_of journal.old)) (slots_journal journal.old) result (slots_journal journal.new) }
+    ensures stays { Stays (op_of operation.now) result (slots_of journal.old) (slots_of journal.new) }
     ensures same_slots { slots_name journal.new ≡ slots_name journal.old }
 {
     match operation {
@@ -85,6 +86,7 @@ pub(crate) fn on_bytes(
     operation: &Operation,
 ) -> Result<Answer, Refusal>
     ensures did { Did (op_of operation.now) (bytes_cost (op_of operation.now) (bytes_of journal.old)) (bytes_journal journal.old) result (bytes_journal journal.new) }
+    ensures stays { Stays (op_of operation.now) result (bytes_of journal.old) (bytes_of journal.new) }
     ensures same_bytes { bytes_name journal.new ≡ bytes_name journal.old }
 {
     match operation {

@@ -65,3 +65,10 @@ Steady (Ok _) o p = p ≡ o
 Steady (Err Full) o p = p ≡ o
 Steady (Err Pruned) o p = p ≡ o
 Steady (Err Off) o p = Clean o p
+
+-- what a refusal leaves of what the journal lies in: all of it, as it was
+abbrev pub Untouched : {A : Type 0} → Result (Unit {0}) Stop → A → A → Type 0
+Untouched (Ok _) old new = Unit {0}
+Untouched (Err Full) old new = new ≡ old
+Untouched (Err Pruned) old new = new ≡ old
+Untouched (Err Off) old new = Unit {0}

@@ -1,33 +1,9 @@
--- Stores, and the power that they take. Assumes nothing.
-use Rattle.std.specs.Prelude.{◌≡◌, ℕ, ◌+◌, ◌-◌, Bool, true, false, cond, List, [], ◌∷◌, ◌++◌, map, length, take, drop, replicate, Some, None, Ok, Err, Option, Result, nat_le, nat_lt, slice_index_or, slice_set}
-use Rattle.journal.specs.declared.stops.Stop.{Stop}
-use Rattle.journal.specs.declared.stops.Stop.TheVariants.{Full, Pruned, Off}
+-- Stores, one slot each. Assumes nothing.
+use Rattle.std.specs.Prelude.{◌≡◌, ℕ, ◌+◌, Bool, true, false, cond, List, [], ◌∷◌, ◌++◌, map, length, take, drop, replicate, nat_lt, slice_index_or, slice_set}
 use Rattle.slots.specs.declared.slot.Slot.{Slot}
 use Rattle.journal.specs.Log.{Bytes}
 use Rattle.slots.specs.Order.{is_free}
 use Rattle.slots.specs.Value.{body, blank}
-
--- whether the power lasts for n stores; no number is no limit
-abbrev pub lasts : ℕ → Option ℕ → Bool
-lasts n None = true
-lasts n (Some k) = nat_le n k
-
--- the power after n stores, or after as many as it lasts
-abbrev pub spent : ℕ → Option ℕ → Option ℕ
-spent n None = None
-spent n (Some k) = Some (k - n)
-
--- the answer of stores for which the power lasted, or did not
-abbrev pub lit : Bool → Result (Unit {0}) Stop
-lit true = Ok tt
-lit false = Err Off
-
--- an operation of n stores: the power went exactly where it does not last for them
-abbrev pub Powered : ℕ → Result (Unit {0}) Stop → Option ℕ → Option ℕ → Type 0
-Powered n (Ok _) p q = (lasts n p ≡ true) × (q ≡ spent n p)
-Powered n (Err Full) p q = q ≡ p
-Powered n (Err Pruned) p q = q ≡ p
-Powered n (Err Off) p q = (lasts n p ≡ false) × (q ≡ spent n p)
 
 -- a free slot
 abbrev pub free : Slot

@@ -5,8 +5,9 @@ ghost use Rattle.std.specs.Prelude.{◌≡◌, None};
 ghost use Rattle.journal.specs.Cuts.{Cut};
 ghost use Rattle.journal.specs.Laws.{Told};
 ghost use Rattle.journal.specs.Log.{Formed};
-ghost use Rattle.journal.specs.Steps.{Appended, Synced, AllSynced, Pruning, Reading, Steady, Clean};
-ghost use Rattle.slots.specs.Stores.{Powered, unders};
+ghost use Rattle.journal.specs.Steps.{Appended, Synced, AllSynced, Pruning, Reading, Steady, Clean, Untouched};
+ghost use Rattle.power.specs.Power.{Powered};
+ghost use Rattle.slots.specs.Stores.{unders};
 ghost use Rattle.slots.specs.Value.{slots_of, name_of, power_of, bound_of, disk_of, overrun_of};
 
 use crate::reading::{first_overrun, next_record};
@@ -89,6 +90,7 @@ impl Journal for SlotJournal<'_> {
         ensures step { Appended (disk_of self.old) section bytes.now result (disk_of self.new) }
         ensures overruns { Steady result (overrun_of self.old) (overrun_of self.new) }
         ensures power { Powered 1 result (power_of self.old) (power_of self.new) }
+        ensures refused { Untouched result (slots_of self.old) (slots_of self.new) }
         ensures same_slots { name_of self.new ≡ name_of self.old }
     {
         if section < self.bound {
@@ -110,6 +112,7 @@ impl Journal for SlotJournal<'_> {
         ensures step { Synced (disk_of self.old) section result (disk_of self.new) }
         ensures overruns { Steady result (overrun_of self.old) (overrun_of self.new) }
         ensures power { Powered 0 result (power_of self.old) (power_of self.new) }
+        ensures slots { slots_of self.new ≡ slots_of self.old }
         ensures same_slots { name_of self.new ≡ name_of self.old }
     {
         Ok(()) // what is stored is durable
@@ -119,6 +122,7 @@ impl Journal for SlotJournal<'_> {
         ensures step { AllSynced (disk_of self.old) result (disk_of self.new) }
         ensures overruns { Steady result (overrun_of self.old) (overrun_of self.new) }
         ensures power { Powered 0 result (power_of self.old) (power_of self.new) }
+        ensures slots { slots_of self.new ≡ slots_of self.old }
         ensures same_slots { name_of self.new ≡ name_of self.old }
     {
         Ok(()) // so is every section
@@ -142,6 +146,7 @@ impl Journal for SlotJournal<'_> {
         ensures step { Reading (disk_of self.old) (overrun_of self.old) result (disk_of self.new) (overrun_of self.new) }
         ensures formed { Formed (disk_of self.new).log }
         ensures power { Told result × (power_of self.new ≡ power_of self.old) }
+        ensures slots { slots_of self.new ≡ slots_of self.old }
         ensures same_slots { name_of self.new ≡ name_of self.old }
     {
         match self.first_overrun() {
@@ -158,6 +163,7 @@ impl Journal for SlotJournal<'_> {
         ensures step { Cut 0 (disk_of self.old).log (disk_of self.new).log }
         ensures overruns { Clean (overrun_of self.old) (overrun_of self.new) }
         ensures power { power_of self.new ≡ power_of self.old }
+        ensures slots { slots_of self.new ≡ slots_of self.old }
         ensures same_slots { name_of self.new ≡ name_of self.old }
     {
         self.bound = 0; // it was in memory only

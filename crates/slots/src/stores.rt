@@ -1,12 +1,14 @@
 //! The stores of a journal, one slot each, as long as the power lasts.
 ghost use Rattle.std.specs.Prelude.{◌≡◌, ◌<◌, length, if◌then◌else◌, MatchOption, slice_set, is_ok};
-ghost use Rattle.slots.specs.Stores.{lasts, lit, spent, stores_at, unders, freed_at, Sweeping};
+ghost use Rattle.power.specs.Power.{lasts, lit, spent};
+ghost use Rattle.slots.specs.Stores.{stores_at, unders, freed_at, Sweeping};
 ghost use Rattle.slots.specs.Value.{SameRest};
 ghost use Rattle.slots.specs.Vacancies.{NoRoom, Room};
 
 use crate::search::{free_place, highest_age};
 use crate::{Slot, SlotJournal};
 use journal::Stop;
+use power::spend;
 
 /// A free slot, and the age of the record that goes there.
 #[derive(Clone, Copy, Debug, PartialEq, Eq)]
@@ -28,19 +30,6 @@ impl SlotJournal<'_> {
         Some(Vacancy { at, age })
     }
 
-    // Takes the power of one store.
-    fn spend(&mut self) -> Result<(), Stop>
-        ensures answer { result ≡ lit (lasts 1 self.old.power) }
-        ensures left { self.new.power ≡ spent 1 self.old.power }
-        ensures same { SameRest self.old self.new }
-        ensures slots { self.new.slots.now ≡ self.old.slots.now }
-    {
-        if let Some(stores) = self.power {
-            self.power = Some(stores.checked_sub(1).ok_or(Stop::Off)?);
-        }
-        Ok(())
-    }
-
     // Stores a slot whole.
     pub(crate) fn store(&mut self, at: usize, slot: Slot) -> Result<(), Stop>
         requires { at < length self.old.slots.now }
@@ -49,7 +38,7 @@ impl SlotJournal<'_> {
         ensures stored { self.new.slots.now ≡ (if is_ok result then slice_set self.old.slots.now at slot else self.old.slots.now) }
         ensures same { SameRest self.old self.new }
     {
-        self.spend()?;
+        spend(&mut self.power)?;
         self.slots[at] = slot;
         Ok(())
     }

@@ -1,6 +1,7 @@
 use Rattle.std.proofs.Common.{◌≡◌, sym, ap, ◌∙◌}
 use Rattle.std.proofs.lemmas.Bool.{cond-true}
-use Rattle.slots.specs.Stores.{lasts, lit, spent, stores_at}
+use Rattle.power.specs.Power.{lasts, lit, spent}
+use Rattle.slots.specs.Stores.{stores_at}
 use Rattle.slots.proofs.SlotJournal.free_one.Goals as goal
 
 pub returns-in_ok-store-clause-answer : goal.returns-in_ok-store-clause-answer

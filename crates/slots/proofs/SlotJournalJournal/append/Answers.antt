@@ -1,5 +1,5 @@
 use Rattle.std.proofs.Common.{◌≡◌, cond, is_ok, set, Ok, Err, sym, ap, ◌∙◌, subst, rules, arith}
-use Rattle.journal.specs.Steps.{Appended}
+use Rattle.journal.specs.Steps.{Appended, Untouched}
 use Rattle.slots.specs.Value.{disk, over}
 use Rattle.slots.proofs.Powers.{lit-err}
 use Rattle.slots.proofs.Steps.{room_within, free-some, free-none, store-over, stored_step, dark_step, full_step}
@@ -24,6 +24,10 @@ returns-in-Err-clause-step c =
     let room = free-some xs c.vacancy.result c.ok_or.result c.in_ok-free.free c.vacancy.ensures c.ok_or.ensures.ok_part c.in_ok-free.was in
     dark_step j.bound c.args.section c.args.bytes.now c.in-Err.stop c.in_ok-free.free xs c.store.new.self.slots.now (lit-err _ _ (sym c.in-Err.is ∙ c.store.ensures.answer)).0 (omega arith) (omega arith) room
     (c.store.ensures.stored ∙ ap (λ r. cond (is_ok r) (set xs c.in_ok-free.free.at c.holding-slot.result) xs) c.in-Err.is)
+
+pub returns-in-Err-clause-refused : goal.returns-in-Err-clause-refused
+returns-in-Err-clause-refused c =
+    subst (λ e. Untouched (Err e) c.args.self.now.slots.now c.store.new.self.slots.now) (sym (lit-err _ _ (sym c.in-Err.is ∙ c.store.ensures.answer)).0) tt
 
 pub returns-clause-step : goal.returns-clause-step
 returns-clause-step c =
