@@ -7,10 +7,9 @@ the end, 2 a tip); a message is a tip and an ack; an ack is height, digest of 32
 and tips of records go up to 2^62 + 15, signers up to 15, other numbers up to 2^64 - 1, certificates that are written up to 1,026
 bytes. A fault names the field and the first byte that is missing, wrong or left over: with that byte the bytes begin no message.
 
-usage: generate.py FOLDER      writes FOLDER/stdin and FOLDER/stdout
+usage: generate.py LINES ANSWERS      writes the two files
 """
 import itertools
-import os
 import sys
 
 TOP = 2**64 - 1
@@ -316,11 +315,11 @@ number(f"encode message x", 2, TOP)
 no_hex(f"encode certified 5 {DIGEST.hex()} x 00", 4)
 number(f"encode tip x 5", 2, TOP_RECORD)
 
-if len(sys.argv) != 2:
-    sys.exit("usage: generate.py FOLDER")
+if len(sys.argv) != 3:
+    sys.exit("usage: generate.py LINES ANSWERS")
 LINES.append((None, f"{len(LINES)} lines, 0 tips counted, {REFUSED} refused, no safe tip"))
-with open(os.path.join(sys.argv[1], "stdin"), "w") as f:
+with open(sys.argv[1], "w") as f:
     f.writelines(line + "\n" for line, _ in LINES if line is not None)
-with open(os.path.join(sys.argv[1], "stdout"), "w") as f:
+with open(sys.argv[2], "w") as f:
     f.writelines(answer + "\n" for _, answer in LINES)
 print(f"{len(LINES) - 1} lines, {REFUSED} of them refused")

@@ -1,7 +1,7 @@
 #!/usr/bin/env python3
 """Writes the recorded runs of the two journals: the lines, and what the model answers.
 
-Usage: generate.py STDIN STDOUT [--long]. The same files come out each time. Prints what was written, in numbers.
+Usage: generate.py LINES ANSWERS [--long]. The same files come out each time. Prints what was written, in numbers.
 With --long the sequences are one act longer; that is for a comparison by hand, and not recorded.
 """
 import itertools

@@ -1,7 +1,7 @@
 #!/usr/bin/env python3
 """Puts errors into the model, one at a time, and counts the recorded cases that find each.
 
-Usage: mutants.py STDIN STDOUT. Each error is an edit of the model's text; the wrong model answers the cases again.
+Usage: mutants.py LINES ANSWERS. Each error is an edit of the model's text; the wrong model answers the cases again.
 Last it says which errors no case finds; any such ends it with a non-zero
 exit.
 """

@@ -1,4 +1,4 @@
-//! The console over recorded sessions, whose answers the published code gave.
+//! The console over recorded sessions, whose answers others gave: the published code, and programs written from the rules.
 #![tactic(auto)]
 
 fn main(rt: HostRuntime) -> anyhow::Result<()> {

@@ -2,9 +2,9 @@
 #![tactic(auto)]
 
 use crate::files::Session;
-use anyhow::anyhow;
-use std::env;
+use anyhow::{Context, bail};
 use std::io::{BufRead, BufReader};
+use std::{env, fs};
 
 mod files;
 
@@ -57,8 +57,25 @@ A number is decimal and has at most 64 bits. Bytes are in hex, two digits each, 
 A line that cannot be done is answered by `refused`, and changes nothing.
 The last line printed is a summary.";
 
-/// Prints what a console has seen.
-fn end(rt: &HostRuntime, session: &Session) -> anyhow::Result<()> {
+const REPLAY_HELP: &str = "Usage: replay FILE ..
+
+Replays recorded sessions: reads the commands that each file has, one a line, and prints what each did, as
+aggregation does (aggregation --help lists them). Each file's part begins with a line `recording` and the file's
+name. A line `new` ends a session, with its summary, and begins another.";
+
+/// Answers these lines to their end. Where they are parted, a line `new` ends a session and begins another.
+fn play<R: BufRead + Drop>(rt: &HostRuntime, input: R, parted: bool) -> anyhow::Result<()> {
+    let mut session = Session::new(rt.alloc());
+    for line in input.split(rt.alloc(), b'\n') {
+        let line = line?;
+        if parted && line.as_slice() == b"new".as_slice() {
+            let summary = session.summary();
+            println!(rt; "{summary}")?;
+            session = Session::new(rt.alloc());
+            continue;
+        }
+        session.answer(rt, &line)?;
+    }
     let summary = session.summary();
     println!(rt; "{summary}")?;
     Ok(())
@@ -68,33 +85,28 @@ fn end(rt: &HostRuntime, session: &Session) -> anyhow::Result<()> {
 pub fn run(rt: &HostRuntime) -> anyhow::Result<()> {
     if let Some(word) = env::args(rt)?.nth(1) {
         if word.as_str() != "--help" {
-            return Err(anyhow!(format!(in rt.alloc();
-                "unknown argument {word}, the only one is --help"
-            )?));
+            bail!("unknown argument {word}, the only one is --help");
         }
         println!(rt; "{HELP}")?;
         return Ok(());
     }
-    let mut session = Session::new(rt.alloc());
-    for line in BufReader::new(rt.alloc(), rt.stdin())?.split(rt.alloc(), b'\n') {
-        let line = line?;
-        session.answer(rt, &line)?;
-    }
-    end(rt, &session)
+    play(rt, BufReader::new(rt.alloc(), rt.stdin())?, false)
 }
 
-// kept: a loop beside that of `run`: one `fn lines(rt, each: impl FnMut(&[u8]) -> anyhow::Result<()>)` for both is longer than a loop
-/// Runs recorded sessions over standard input, one after the other: a line `new` ends one and begins the next.
+/// Replays the recorded sessions in the files that the arguments name, one after the other; says what it reads where
+/// there are none, or one is `--help`.
 pub fn replay(rt: &HostRuntime) -> anyhow::Result<()> {
-    let mut session = Session::new(rt.alloc());
-    for line in BufReader::new(rt.alloc(), rt.stdin())?.split(rt.alloc(), b'\n') {
-        let line = line?;
-        if line.as_slice() == b"new".as_slice() {
-            end(rt, &session)?;
-            session = Session::new(rt.alloc());
-            continue;
-        }
-        session.answer(rt, &line)?;
+    let mut files = env::args(rt)?.skip(1).peekable();
+    if files.peek().is_none_or(|word| word.as_str() == "--help") {
+        println!(rt; "{REPLAY_HELP}")?;
+        return Ok(());
     }
-    end(rt, &session)
+    for name in files {
+        let file = fs::open(rt, name.as_str()).context(format_args!("opening {name}"))?;
+        println!(rt; "recording {name}")?;
+        play(rt, BufReader::new(rt.alloc(), file)?, true).context(format_args!(
+            "replaying {name}"
+        ))?;
+    }
+    Ok(())
 }
