@@ -1,0 +1,5 @@
+use Rattle.std.proofs.Common.{rules}
+use Rattle.console.proofs.refusals.RefusedFromConsole_formsRefusal.from.Goals as goal
+
+pub returns : goal.returns
+returns c = search rules
