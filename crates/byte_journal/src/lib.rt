@@ -1,8 +1,9 @@
 //! A journal that keeps its records in areas of a lent slice of bytes.
 #![tactic(auto)]
 
-ghost use Rattle.std.specs.Prelude.{◌≡◌, None};
+ghost use Rattle.std.specs.Prelude.{◌≡◌, ◌≤◌, None};
 ghost use Rattle.areas.specs.Plan.{rest_of};
+ghost use Rattle.areas_writing.specs.Steps.{Adding, Clearing};
 ghost use Rattle.journal.specs.Cuts.{Cut};
 ghost use Rattle.journal.specs.Laws.{Told};
 ghost use Rattle.journal.specs.Log.{Formed};
@@ -86,6 +87,7 @@ impl Journal for ByteJournal<'_> {
         ensures overruns { Steady result (overrun_of self.old) (overrun_of self.new) }
         ensures power { Powered (append_cost section bytes.now (bytes_of self.old)) result (power_of self.old) (power_of self.new) }
         ensures refused { Untouched result (bytes_of self.old) (bytes_of self.new) }
+        ensures areas { bound_of self.old ≤ section → Adding (bytes_of self.old) (power_of self.old) section bytes.now result (bytes_of self.new) (power_of self.new) }
         ensures rest { rest_of (bytes_of self.new) ≡ rest_of (bytes_of self.old) }
         ensures same_bytes { name_of self.new ≡ name_of self.old }
     {
@@ -126,6 +128,7 @@ impl Journal for ByteJournal<'_> {
         ensures step { Pruning (disk_of self.old) section result (disk_of self.new) }
         ensures overruns { Clean (overrun_of self.old) (overrun_of self.new) }
         ensures power { Powered (prune_cost section (bytes_of self.old)) result (power_of self.old) (power_of self.new) }
+        ensures areas { Clearing (bytes_of self.old) (power_of self.old) section result (bytes_of self.new) (power_of self.new) }
         ensures rest { rest_of (bytes_of self.new) ≡ rest_of (bytes_of self.old) }
         ensures same_bytes { name_of self.new ≡ name_of self.old }
     {

@@ -16,7 +16,7 @@ did_leaves (append s b) n v r w (t, told, step, steady, power) = (t, step)
 did_leaves (sync s) n v r w (t, told, step, steady, power) = (t, step)
 did_leaves sync_all n v r w (t, told, step, steady, power) = (t, step)
 did_leaves (prune s) n v r w (t, told, step, steady, power) = (t, step)
-did_leaves read n v r w (t, shown, step, power) = (v.overrun, w.overrun, t, step)
+did_leaves read n v r w (t, shown, step, told, power) = (v.overrun, w.overrun, t, step)
 did_leaves cut n v r w (told, step, clean, power) = step
 
 operated_leaves : (op : Op) (s : Stored) (c : Carried) (r : Result Answer Refusal) (t : Stored) (d : Carried) → OperatedIn op s c r t d → Leaves op (disk_in s c) (disk_in t d)

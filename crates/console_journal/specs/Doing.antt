@@ -2,7 +2,7 @@
 use Rattle.std.specs.Prelude.{◌≡◌, ℕ, ◌⊎◌, List, length, string_bytes, Some, Ok, Err, String, Option, Result}
 use Rattle.std.specs.Global.{Global}
 use Rattle.journal.specs.Cuts.{Cut as CutOff}
-use Rattle.journal.specs.Laws.{Op, append, sync, sync_all, prune, read, cut}
+use Rattle.journal.specs.Laws.{Op, append, sync, sync_all, prune, read, cut, Told}
 use Rattle.journal.specs.Log.{Placed, reading}
 use Rattle.journal.specs.Steps.{Disk, Appended as Appends, Synced as Syncs, AllSynced, Pruning, Reading, Steady, Clean}
 use Rattle.journal.specs.declared.places.Overrun.{Overrun as Past}
@@ -37,11 +37,12 @@ Shown (Err (Overran x)) xs r = r ≡ Err NoMemory ⊎ ((l : String Global) × (r
 Shown (Err Crammed) xs r = r ≡ Err Full
 Shown (Err Dark) xs r = r ≡ Ok WentOff
 
--- an operation that takes n stores: what the journal answered is told, and the value, the overrun and the power are as the journal promises
+-- an operation that takes n stores: what the journal answered is told, and the value, the overrun and the power are as the journal promises; reading
+-- takes no store, so it comes to an end or to an overrun
 abbrev pub Did : Op → ℕ → Value → Result Answer Refusal → Value → Type 0
 Did (append s b) n v r w = (t : Result (Unit {0}) Stop) × (r ≡ told Appended t) × Appends v.disk s b t w.disk × Steady t v.overrun w.overrun × Powered n t v.power w.power
 Did (sync s) n v r w = (t : Result (Unit {0}) Stop) × (r ≡ told Synced t) × Syncs v.disk s t w.disk × Steady t v.overrun w.overrun × Powered n t v.power w.power
 Did sync_all n v r w = (t : Result (Unit {0}) Stop) × (r ≡ told SyncedAll t) × AllSynced v.disk t w.disk × Steady t v.overrun w.overrun × Powered n t v.power w.power
 Did (prune s) n v r w = (t : Result (Unit {0}) Stop) × (r ≡ told Pruned t) × Pruning v.disk s t w.disk × Clean v.overrun w.overrun × Powered n t v.power w.power
-Did read n v r w = (t : Result (Unit {0}) ReadStop) × Shown t (reading w.disk.log.sections) r × Reading v.disk v.overrun t w.disk w.overrun × (w.power ≡ v.power)
+Did read n v r w = (t : Result (Unit {0}) ReadStop) × Shown t (reading w.disk.log.sections) r × Reading v.disk v.overrun t w.disk w.overrun × Told t × (w.power ≡ v.power)
 Did cut n v r w = (r ≡ Ok Cut) × CutOff 0 v.disk.log w.disk.log × Clean v.overrun w.overrun × (w.power ≡ v.power)

@@ -1,5 +1,5 @@
 -- What the stores of an operation do to the value. Assumes nothing.
-use Rattle.std.proofs.Common.{◌≡◌, ℕ, ◌<◌, ◌≤◌, max, true, false, ◌&&◌, leb, List, [], ◌∷◌, map, length, set, MatchOption, Some, None, Option, Ok, Err, Result, sym, refl, ap, ◌∙◌, subst, arith}
+use Rattle.std.proofs.Common.{◌≡◌, ℕ, ◌<◌, ◌≤◌, max, true, false, ◌&&◌, eqb, leb, List, [], ◌∷◌, map, length, set, MatchOption, Some, None, Option, Ok, Err, Result, sym, refl, ap, ◌∙◌, subst, arith}
 use Rattle.std.proofs.lemmas.Bool.{and_from, and_right, le-leb, le-ltb, cond-false}
 use Rattle.journal.specs.Log.{Bytes, appended, added, from, pruned, AllFirmer, Firmer}
 use Rattle.journal.specs.Cuts.{AllLeft, Cut}
@@ -9,7 +9,7 @@ use Rattle.slots.specs.declared.slot.Slot.{Slot}
 use Rattle.slots.specs.declared.stores.Vacancy.{Vacancy}
 use Rattle.slots.specs.Order.{order, highest}
 use Rattle.slots.specs.Value.{body, blank, grouped, log_of, space, disk, over}
-use Rattle.slots.specs.Stores.{Holds, freed, swept, Sweeping}
+use Rattle.slots.specs.Stores.{Holds, Storing, freed, swept, Sweeping}
 use Rattle.std.specs.Result.{result_ok}
 use Rattle.std.specs.Option.{ok_or}
 use Rattle.slots.specs.Vacancies.{NoRoom, Room}
@@ -88,6 +88,12 @@ pub stored_step : (bound s : ℕ) (b : Bytes) (v : Vacancy) (y : Slot) (xs ys : 
     Appended (disk bound xs) s b (Ok tt) (disk bound ys)
 stored_step bound s b v y xs ys h l room holds e =
     (h, fits_yes xs s (length b) l (room.room s (length b)), subst (λ (zs : List Slot). Firmer (appended s b (log_of bound xs)) (log_of bound zs)) (sym e) (store_step bound s b v y xs room holds))
+
+-- one that was free, with the age after the highest
+pub storing : (s : ℕ) (b : Bytes) (v : Vacancy) (y : Slot) (xs ys : List Slot) → Room v xs → Holds s v.age b y → ys ≡ set xs v.at y → Storing s b (Ok tt) xs ys
+storing s b v y xs ys room holds e =
+    let at = vacant-at v.at xs room.place in
+    (v.at, y, at.0, ap (λ n. eqb n 0) (at.1 blank), subst (λ a. Holds s a b y) room.age holds, e)
 
 -- the power went before it did
 pub dark_step : (bound s : ℕ) (b : Bytes) (e : Stop) (v : Vacancy) (xs ys : List Slot) → e ≡ Off → bound ≤ s → length b ≤ 1068 → Room v xs → ys ≡ xs → Appended (disk bound xs) s b (Err e) (disk 0 ys)

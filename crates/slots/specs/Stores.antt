@@ -1,8 +1,9 @@
 -- Stores, one slot each. Assumes nothing.
-use Rattle.std.specs.Prelude.{◌≡◌, ℕ, ◌+◌, Bool, true, false, cond, List, [], ◌∷◌, ◌++◌, map, length, take, drop, replicate, nat_lt, slice_index_or, slice_set}
+use Rattle.std.specs.Prelude.{◌≡◌, ℕ, ◌+◌, ◌<◌, Bool, true, false, cond, List, [], ◌∷◌, ◌++◌, map, length, take, drop, replicate, nat_lt, slice_index_or, slice_set, Ok, Err, Result}
 use Rattle.slots.specs.declared.slot.Slot.{Slot}
 use Rattle.journal.specs.Log.{Bytes}
-use Rattle.slots.specs.Order.{is_free}
+use Rattle.journal.specs.declared.stops.Stop.{Stop}
+use Rattle.slots.specs.Order.{is_free, highest}
 use Rattle.slots.specs.Value.{body, blank}
 
 -- a free slot
@@ -49,3 +50,9 @@ pub record Holds (s a : ℕ) (b : Bytes) (x : Slot) : Type 0 where
   pub age : x.age ≡ a
   pub len : x.len ≡ length b
   pub whole : body x ≡ b
+
+-- append: a slot that was free holds the record, its age one above the highest; refused, or where the power goes, the slots are as they were
+abbrev pub Storing : ℕ → Bytes → Result (Unit {0}) Stop → List Slot → List Slot → Type 0
+Storing s b (Ok _) xs ys =
+    (i : ℕ) × (x : Slot) × (i < length xs) × (is_free (slice_index_or xs i blank) ≡ true) × Holds s (highest xs + 1) b x × (ys ≡ slice_set xs i x)
+Storing s b (Err e) xs ys = ys ≡ xs

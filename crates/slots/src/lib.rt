@@ -1,13 +1,13 @@
 //! A journal that keeps each record in one slot of a lent list.
 #![tactic(auto)]
 
-ghost use Rattle.std.specs.Prelude.{◌≡◌, None};
+ghost use Rattle.std.specs.Prelude.{◌≡◌, is_ok, None};
 ghost use Rattle.journal.specs.Cuts.{Cut};
 ghost use Rattle.journal.specs.Laws.{Told};
 ghost use Rattle.journal.specs.Log.{Formed};
-ghost use Rattle.journal.specs.Steps.{Appended, Synced, AllSynced, Pruning, Reading, Steady, Clean, Untouched};
+ghost use Rattle.journal.specs.Steps.{Appended, Synced, AllSynced, Pruning, Reading, Steady, Clean};
 ghost use Rattle.power.specs.Power.{Powered};
-ghost use Rattle.slots.specs.Stores.{unders};
+ghost use Rattle.slots.specs.Stores.{unders, Storing, Sweeping};
 ghost use Rattle.slots.specs.Value.{slots_of, name_of, power_of, bound_of, disk_of, overrun_of};
 
 use crate::reading::{first_overrun, next_record};
@@ -90,7 +90,7 @@ impl Journal for SlotJournal<'_> {
         ensures step { Appended (disk_of self.old) section bytes.now result (disk_of self.new) }
         ensures overruns { Steady result (overrun_of self.old) (overrun_of self.new) }
         ensures power { Powered 1 result (power_of self.old) (power_of self.new) }
-        ensures refused { Untouched result (slots_of self.old) (slots_of self.new) }
+        ensures stored { Storing section bytes.now result (slots_of self.old) (slots_of self.new) }
         ensures same_slots { name_of self.new ≡ name_of self.old }
     {
         if section < self.bound {
@@ -132,6 +132,7 @@ impl Journal for SlotJournal<'_> {
         ensures step { Pruning (disk_of self.old) section result (disk_of self.new) }
         ensures overruns { Clean (overrun_of self.old) (overrun_of self.new) }
         ensures power { Powered (unders section (slots_of self.old)) result (power_of self.old) (power_of self.new) }
+        ensures freed { Sweeping section (is_ok result) (slots_of self.old) (slots_of self.new) }
         ensures same_slots { name_of self.new ≡ name_of self.old }
     {
         if let Err(stop) = self.free_below(section) {

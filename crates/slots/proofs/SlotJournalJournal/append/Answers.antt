@@ -1,8 +1,8 @@
 use Rattle.std.proofs.Common.{◌≡◌, cond, is_ok, set, Ok, Err, sym, ap, ◌∙◌, subst, rules, arith}
-use Rattle.journal.specs.Steps.{Appended, Untouched}
+use Rattle.journal.specs.Steps.{Appended}
 use Rattle.slots.specs.Value.{disk, over}
 use Rattle.slots.proofs.Powers.{lit-err}
-use Rattle.slots.proofs.Steps.{room_within, free-some, free-none, store-over, stored_step, dark_step, full_step}
+use Rattle.slots.proofs.Steps.{room_within, free-some, free-none, store-over, stored_step, storing, dark_step, full_step}
 use Rattle.slots.proofs.SlotJournalJournal.append.Goals as goal
 
 pub store-requires : goal.store-requires
@@ -25,9 +25,10 @@ returns-in-Err-clause-step c =
     dark_step j.bound c.args.section c.args.bytes.now c.in-Err.stop c.in_ok-free.free xs c.store.new.self.slots.now (lit-err _ _ (sym c.in-Err.is ∙ c.store.ensures.answer)).0 (omega arith) (omega arith) room
     (c.store.ensures.stored ∙ ap (λ r. cond (is_ok r) (set xs c.in_ok-free.free.at c.holding-slot.result) xs) c.in-Err.is)
 
-pub returns-in-Err-clause-refused : goal.returns-in-Err-clause-refused
-returns-in-Err-clause-refused c =
-    subst (λ e. Untouched (Err e) c.args.self.now.slots.now c.store.new.self.slots.now) (sym (lit-err _ _ (sym c.in-Err.is ∙ c.store.ensures.answer)).0) tt
+pub returns-in-Err-clause-stored : goal.returns-in-Err-clause-stored
+returns-in-Err-clause-stored c =
+    let xs = c.args.self.now.slots.now in
+    c.store.ensures.stored ∙ ap (λ r. cond (is_ok r) (set xs c.in_ok-free.free.at c.holding-slot.result) xs) c.in-Err.is
 
 pub returns-clause-step : goal.returns-clause-step
 returns-clause-step c =
@@ -44,3 +45,10 @@ returns-clause-overruns c =
     let room = free-some xs c.vacancy.result c.ok_or.result c.in_ok-free.free c.vacancy.ensures c.ok_or.ensures.ok_part c.in_ok-free.was in
     ap over (c.store.ensures.stored ∙ ap (λ r. cond (is_ok r) (set xs c.in_ok-free.free.at c.holding-slot.result) xs) c.in_default.is)
     ∙ store-over c.args.section c.args.bytes.now c.in_ok-free.free c.holding-slot.result xs room c.holding-slot.ensures (omega arith)
+
+pub returns-clause-stored : goal.returns-clause-stored
+returns-clause-stored c =
+    let xs = c.args.self.now.slots.now in
+    let room = free-some xs c.vacancy.result c.ok_or.result c.in_ok-free.free c.vacancy.ensures c.ok_or.ensures.ok_part c.in_ok-free.was in
+    storing c.args.section c.args.bytes.now c.in_ok-free.free c.holding-slot.result xs c.store.new.self.slots.now room c.holding-slot.ensures
+    (c.store.ensures.stored ∙ ap (λ r. cond (is_ok r) (set xs c.in_ok-free.free.at c.holding-slot.result) xs) c.in_default.is)
