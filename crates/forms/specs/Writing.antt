@@ -1,5 +1,5 @@
 -- How messages and records are written. Assumes nothing.
-use Rattle.std.specs.Prelude.{ℕ, ◌+◌, cond, List, ◌∷◌, ◌++◌, length, take, drop, Ok, Err, Result, nat_le}
+use Rattle.std.specs.Prelude.{ℕ, cond, List, ◌∷◌, ◌++◌, length, drop, Ok, Err, Result, nat_le}
 use Rattle.forms.specs.declared.faults.Short.{Short}
 use Rattle.forms.specs.Uint.{spell}
 use Rattle.forms.specs.Values.{Ack, Activity, ack, certified, tip, TipAck}
@@ -25,7 +25,3 @@ fitted bs out = cond (nat_le (length bs) (length out)) (Ok (length bs)) (Err (re
 -- what the buffer holds then: bs, and behind it what stood there; a buffer that is too short stays as it was
 abbrev pub laid : List ℕ → List ℕ → List ℕ
 laid bs out = cond (nat_le (length bs) (length out)) (bs ++ drop (length bs) out) out
-
--- bs in the place of as many bytes from `at` on
-abbrev pub put : ℕ → List ℕ → List ℕ → List ℕ
-put at bs out = take at out ++ bs ++ drop (at + length bs) out
