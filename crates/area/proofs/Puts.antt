@@ -1,15 +1,18 @@
 -- What is written at a place, and what it leaves. Assumes nothing.
 use Rattle.std.proofs.Common.{◌≡◌, ℕ, ◌+◌, ◌-◌, ◌<◌, ◌≤◌, ◌≢◌, List, [], ◌∷◌, ◌++◌, length, get_or, take, drop, set, sym, refl, ap, ◌∙◌, subst, arith}
-use Rattle.std.proofs.lemmas.List.{take-append-drop, append_assoc, append-nil, set-append_right, length-take-le, length-append, drop_more, length-drop, get_or-set_other, length-set, get_or_append_left, get_or-take, drop_at, take_at, drop-drop}
+use Rattle.std.proofs.lemmas.List.{append_assoc, set-append_right, length-take-le, length-append, drop_more, length-drop, get_or-set_other, length-set, get_or_append_left, get_or-take, drop_at, take_at, drop-drop}
 use Rattle.std.specs.Int.{w16, to_be_bytes}
+use borrow.Rule.Slice.PartMut.{put_mid}
 use Rattle.area.specs.Edits.{put, Kept, framed}
 
-pub put_none : (at : ℕ) (out : List ℕ) → put at [] out ≡ out
+-- a copy over a part of the bytes
+pub put_copied : (at k : ℕ) (bs out : List ℕ) → length bs ≡ k → put_mid at k out bs ≡ put at bs out
 unfolding put
-put_none at out = let z : at + 0 ≡ at = omega arith in let t = take-append-drop at out in simp (append-nil, z, t)
+put_copied at k bs out l =
+    sym (append_assoc (take at out) bs (drop k (drop at out))) ∙ ap (λ rest. take at out ++ bs ++ rest) (drop-drop k at out ∙ ap (λ n. drop (at + n) out) (sym l))
 
 -- one more byte behind those that were put
-pub put-more : (at : ℕ) (bs out : List ℕ) (b : ℕ) → at + length bs < length out → set (put at bs out) (at + length bs) b ≡ put at (bs ++ b ∷ []) out
+put-more : (at : ℕ) (bs out : List ℕ) (b : ℕ) → at + length bs < length out → set (put at bs out) (at + length bs) b ≡ put at (bs ++ b ∷ []) out
 unfolding put
 put-more at bs out b h =
     let lt : length (take at out) ≡ at = length-take-le at out (omega arith) in

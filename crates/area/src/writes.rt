@@ -6,9 +6,9 @@ ghost use Rattle.area.specs.Writes.{Appended, Freed, Started, Stored};
 use crate::reads::room;
 use crate::records::{HEAD, MARK, NO_MARK, PREFIX};
 use journal::Stop;
-use power::spend;
+use power::{draw, spend};
 
-// Stores one byte, if there is power for it: the only writer.
+// Stores one byte, if there is power for it.
 fn store(area: &mut [u8], power: &mut Option<u64>, at: usize, byte: u8) -> Result<(), Stop>
     requires { at < length area.old }
     ensures { Stored 1 (length area.old) area.old (slice_set area.old at byte) power.old result area.new power.new }
@@ -18,13 +18,15 @@ fn store(area: &mut [u8], power: &mut Option<u64>, at: usize, byte: u8) -> Resul
     Ok(())
 }
 
-// Stores the bytes of `part` one by one from `at` on.
+// Stores the bytes of `part` from `at` on, as many as there is power for.
 fn store_all(area: &mut [u8], power: &mut Option<u64>, at: usize, part: &[u8]) -> Result<(), Stop>
     requires { at + length part.now ≤ length area.old }
     ensures { Stored (length part.now) at area.old (put at part.now area.old) power.old result area.new power.new }
 {
-    for (i, byte) in part.iter().enumerate() {
-        store(area, power, at + i, *byte)?;
+    let made = draw(power, part.len());
+    area[at..at + made].copy_from_slice(&part[..made]);
+    if made < part.len() {
+        return Err(Stop::Off);
     }
     Ok(())
 }

@@ -1,12 +1,17 @@
 -- What the power lasts, one part of the stores after another. Assumes nothing.
 use Rattle.std.proofs.Common.{◌≡◌, ℕ, ◌+◌, ◌-◌, ◌≤◌, true, false, Some, None, Option, refl, ap, ◌∙◌, subst, arith}
 use Rattle.std.proofs.lemmas.Bool.{leb-true, leb-false, le-leb, lt-leb}
-use Rattle.power.specs.Power.{lasts, spent, Took}
+use Rattle.power.specs.Power.{lasts, made, spent, Took}
 
 -- no store takes nothing
 pub took_none : (p : Option ℕ) → Took 0 true p p
 took_none None = (refl, refl)
 took_none (Some k) = let z : k ≡ k - 0 = omega arith in (le-leb 0 k (omega arith), ap Some z)
+
+-- where it lasts for no fewer than n stores, it lasts for n
+pub lasts_made : (n : ℕ) (p : Option ℕ) → n ≤ made n p → lasts n p ≡ true
+lasts_made n None h = refl
+lasts_made n (Some k) h = le-leb n k (omega arith)
 
 -- one part and then another
 lasts_both : (p : Option ℕ) (m n t : ℕ) → t ≡ m + n → lasts m p ≡ true → lasts n (spent m p) ≡ true → lasts t p ≡ true

@@ -1,5 +1,5 @@
 -- How many stores the power still lasts; `None` is no limit. Assumes nothing.
-use Rattle.std.specs.Prelude.{◌≡◌, ℕ, ◌-◌, Bool, true, false, Some, None, Ok, Err, Option, Result, nat_le}
+use Rattle.std.specs.Prelude.{◌≡◌, ℕ, ◌-◌, min, Bool, true, false, Some, None, Ok, Err, Option, Result, nat_le}
 use Rattle.journal.specs.declared.stops.Stop.{Stop}
 use Rattle.journal.specs.declared.stops.Stop.TheVariants.{Full, Pruned, Off}
 
@@ -12,6 +12,11 @@ lasts n (Some left) = nat_le n left
 abbrev pub spent : ℕ → Option ℕ → Option ℕ
 spent n None = None
 spent n (Some left) = Some (left - n)
+
+-- how many of n stores the power lasts for
+abbrev pub made : ℕ → Option ℕ → ℕ
+made n None = n
+made n (Some left) = min n left
 
 -- the answer of stores for which the power lasted, or did not
 abbrev pub lit : Bool → Result (Unit {0}) Stop

@@ -2,7 +2,7 @@
 #![tactic(auto)]
 
 ghost use Rattle.std.specs.Prelude.{◌≡◌};
-ghost use Rattle.power.specs.Power.{lasts, lit, spent};
+ghost use Rattle.power.specs.Power.{lasts, lit, made, spent};
 
 use journal::Stop;
 
@@ -15,4 +15,16 @@ pub fn spend(power: &mut Option<u64>) -> Result<(), Stop>
         *power = Some(stores.checked_sub(1).ok_or(Stop::Off)?);
     }
     Ok(())
+}
+
+/// Takes the power of so many stores, as far as it lasts, and answers for how many it did.
+pub fn draw(power: &mut Option<u64>, stores: usize) -> usize
+    ensures answer { result ≡ made stores power.old }
+    ensures left { power.new ≡ spent stores power.old }
+{
+    let Some(left) = *power else {
+        return stores;
+    };
+    *power = Some(left.saturating_sub(stores as u64));
+    stores.min(left as usize)
 }
