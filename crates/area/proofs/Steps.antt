@@ -1,6 +1,6 @@
 -- How the records of an area follow one another. Assumes nothing.
-use Rattle.std.proofs.Common.{◌≡◌, ℕ, zero, suc, ◌+◌, ◌*◌, ◌<◌, ◌≤◌, true, false, ◌⊎◌, List, [], ◌∷◌, ◌++◌, length, get_or, drop, sym, refl, ap, ◌∙◌, inl, inr, arith}
-use Rattle.std.proofs.lemmas.List.{length-take-le, length-drop, get_or-drop, get_or_past}
+use Rattle.std.proofs.Common.{◌≡◌, ℕ, zero, suc, ◌+◌, ◌-◌, ◌*◌, ◌<◌, ◌≤◌, true, false, ◌⊎◌, List, [], ◌∷◌, ◌++◌, length, get_or, take, drop, sym, refl, ap, ◌∙◌, inl, inr, arith}
+use Rattle.std.proofs.lemmas.List.{length-take-le, length-drop, get_or-drop, get_or_past, take_rest, drop-drop}
 use Rattle.std.proofs.lemmas.Bool.{and_from, and_parts, and_left, eq-eqb, ne_eqb, eqb-true, le-leb, leb-true, cond-true, cond-false, cases_Bool, cases_eq, cases_lt}
 use Rattle.area.specs.Area.{size, holds, body, records_by, records_at, extent, records_of, end_of}
 
@@ -44,6 +44,23 @@ inside_by_mark bs at m = go (cases_lt at (length bs))
     go : (at < length bs) ⊎ (length bs ≤ at) → at < length bs
     go (inl h) = h
     go (inr h) = let z = get_or_past bs at 0 h in omega arith
+
+-- a record by what stands from its mark on
+module _ (bs ts : List ℕ) (at : ℕ) (from : ts ≡ take (length bs - at) (drop at bs)) where
+  from-drop : ts ≡ drop at bs
+  from-drop = from ∙ take_rest bs at
+
+  from-byte : (i : ℕ) → get_or bs (at + i) 0 ≡ get_or ts i 0
+  from-byte i = sym (ap (λ l. get_or l i 0) from-drop ∙ get_or-drop at bs i 0)
+
+  pub from-size : size bs at ≡ get_or ts 1 0 * 256 + get_or ts 2 0
+  from-size = omega (arith, size_is bs at, from-byte 1, from-byte 2)
+
+  pub from-mark : get_or bs at 0 ≡ get_or ts 0 0
+  from-mark = let z : at + 0 ≡ at = omega arith in ap (λ i. get_or bs i 0) (sym z) ∙ from-byte 0
+
+  pub from-rest : take (length ts - 3) (drop 3 ts) ≡ drop (at + 3) bs
+  from-rest = take_rest ts 3 ∙ ap (drop 3) from-drop ∙ drop-drop 3 at bs
 
 -- the body of a whole record is as long as its length says
 pub length-body : (bs : List ℕ) (at : ℕ) → holds bs at ≡ true → length (body bs at) ≡ size bs at

@@ -1,7 +1,7 @@
 //! The records of an area, one after the other.
 ghost use Rattle.std.specs.Prelude.{◌≡◌, ◌≤◌, true, false, length, MatchOption, slice_index};
 ghost use Rattle.std.specs.Iterator.{YieldsFirstRef, item_count};
-ghost use Rattle.area.specs.Area.{body, holds, records_of, size};
+ghost use Rattle.area.specs.Area.{body, holds, records_of};
 ghost use Rattle.area.specs.Records.{left};
 
 use journal::MAX_RECORD;
@@ -25,29 +25,19 @@ pub(crate) fn byte(area: &[u8], at: usize) -> u8
     area.get(at).copied().unwrap_or(0)
 }
 
-// The length behind the mark of a record at `at`.
-#[tactic(auto, using(crate::proofs::Steps::size_is))]
-fn length_at(area: &[u8], at: usize) -> usize
-    requires { slice_index area.now at ≡ 1 }
-    ensures { result ≡ size area.now at }
-{
-    usize::from(u16::from_be_bytes([byte(area, at + 1), byte(area, at + 2)]))
-}
-
 // The body of the record at `at`; `None` where no whole record stands there.
 #[tactic(auto, unfolding(crate::specs::Area::holds, crate::specs::Area::body))]
 fn body_at(area: &[u8], at: usize) -> Option<&[u8]>
     ensures { MatchOption result (holds area.now at ≡ false) (λ b. (holds area.now at ≡ true) × (b.now ≡ body area.now at)) }
 {
-    if byte(area, at) != MARK {
+    let [MARK, high, low, rest @ ..] = area.get(at..)? else {
         return None;
-    }
-    let len = length_at(area, at);
+    };
+    let len = usize::from(u16::from_be_bytes([*high, *low]));
     if len > MAX_RECORD {
         return None;
     }
-    let start = at + PREFIX;
-    area.get(start..start + len)
+    rest.get(..len)
 }
 
 /// The records of an area, from the first to the last.
