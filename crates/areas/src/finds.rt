@@ -1,10 +1,17 @@
 //! What is found among the areas of a medium.
 ghost use Rattle.std.specs.Prelude.{◌≡◌, ◌<◌, true, false, not, [], length, drop, is_some, None, MatchOption, slice_index_or};
 ghost use Rattle.area.specs.Area.{read};
-ghost use Rattle.areas.specs.Plan.{area_at, plan, owned_by, areas_of, First, spared};
+ghost use Rattle.areas.specs.Plan.{area_at, areas_in, plan, owned_by, areas_of, First, spared};
 
 /// How many bytes an area has.
 pub const AREA: usize = 4096;
+
+/// The whole areas of a medium.
+pub fn areas(medium: &[u8]) -> &[[u8; AREA]]
+    ensures { result.now ≡ areas_in medium.now }
+{
+    medium.as_chunks().0
+}
 
 /// How many whole areas a medium has.
 pub fn count(medium: &[u8]) -> usize
@@ -35,8 +42,8 @@ pub fn owns(area: &[u8], section: u64) -> bool
 pub fn find(medium: &[u8], section: u64, from: usize) -> Option<usize>
     ensures { MatchOption result (areas_of section (drop from (plan medium.now)) ≡ []) (λ i. First section from i (plan medium.now)) }
 {
-    let at = medium
-        .chunks_exact(AREA)
+    let at = areas(medium)
+        .iter()
         .skip(from)
         .position(|area| owns(area, section))?;
     Some(from + at)
@@ -53,5 +60,5 @@ fn is_free(area: &[u8]) -> bool
 pub fn spare(medium: &[u8]) -> Option<usize>
     ensures { MatchOption result (spared (plan medium.now) ≡ false) (λ i. (spared (plan medium.now) ≡ true) × (i < length (plan medium.now)) × (slice_index_or (plan medium.now) i None ≡ None)) }
 {
-    medium.chunks_exact(AREA).position(is_free)
+    areas(medium).iter().position(|area| is_free(area))
 }

@@ -3,4 +3,4 @@
 
 mod finds;
 
-pub use finds::{AREA, count, find, owns, part, spare};
+pub use finds::{AREA, areas, count, find, owns, part, spare};

@@ -7,7 +7,7 @@ ghost use Rattle.journal.specs.Places.{placed};
 ghost use Rattle.areas.specs.Plan.{plan, some, shows, records_in, above as Above, candidate as Candidate, lowest as Lowest};
 ghost use Rattle.areas_reading.specs.Next.{Points, placed_at, leading, next_of};
 
-use areas::{AREA, owns, part};
+use areas::{AREA, areas, owns, part};
 use journal::{Place, Record};
 
 // Whether an area has a record.
@@ -25,12 +25,10 @@ fn is_shown(area: &[u8], section: u64) -> bool
 }
 
 // The area that shows the records of a section.
-fn holder(medium: &[u8], section: u64) -> Option<&[u8]>
+fn holder(medium: &[u8], section: u64) -> Option<&[u8; AREA]>
     ensures { MatchOption result (records_in section (plan medium.now) ≡ []) (λ area. records_in section (plan medium.now) ≡ records_of area.now) }
 {
-    medium
-        .chunks_exact(AREA)
-        .find(|area| is_shown(area, section))
+    areas(medium).iter().find(|area| is_shown(*area, section))
 }
 
 // Whether a section is above a number, where one is given.
@@ -55,8 +53,8 @@ fn candidate(area: &[u8], low: Option<u64>) -> Option<u64>
 fn lowest(medium: &[u8], low: Option<u64>) -> Option<(u64, usize)>
     ensures { Points result (Lowest low (plan medium.now)) (plan medium.now) }
 {
-    medium
-        .chunks_exact(AREA)
+    areas(medium)
+        .iter()
         .enumerate()
         .filter_map(|(at, area)| candidate(area, low).map(|section| (section, at)))
         .min_by_key(|(section, _)| *section)

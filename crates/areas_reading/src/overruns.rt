@@ -5,7 +5,7 @@ ghost use Rattle.areas.specs.Plan.{plan, areas_of};
 ghost use Rattle.areas_reading.specs.Overruns.{overrun_of, overrun_by, overrun as Overran};
 
 use area::Records;
-use areas::{AREA, find, part};
+use areas::{areas, find, part};
 use journal::{Defect, Overrun, Place};
 
 // How many records an area has.
@@ -44,8 +44,8 @@ fn overrun_by(medium: &[u8], area: &[u8]) -> Option<Overrun>
 pub fn overrun(medium: &[u8]) -> Option<Overrun>
     ensures { result ≡ Overran (plan medium.now) }
 {
-    medium
-        .chunks_exact(AREA)
+    areas(medium)
+        .iter()
         .filter_map(|area| overrun_by(medium, area))
         .min_by_key(|overrun| overrun.place.section)
 }

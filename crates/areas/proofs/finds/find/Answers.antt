@@ -9,12 +9,12 @@ use Rattle.areas.proofs.finds.find.Goals as goal
 
 pub returns-in_err-at : goal.returns-in_err-at
 returns-in_err-at c =
-    let at = position_from_yields_List (owned_by c.args.section) _ _ c.position.result c.position.ensures.ran (YieldsList-from_skip c.args.«from» (YieldsList-at c.skip.ensures.source (YieldsList-areas c.args.medium.now c.chunks_exact.ensures.rest c.chunks_exact.ensures.size)) c.skip.ensures.count)
+    let at = position_from_yields_List (owned_by c.args.section) _ _ c.position.result c.position.ensures.ran (YieldsList-from_skip c.args.«from» (YieldsList-at c.skip.ensures.source (YieldsList-areas c.args.medium.now (cc))) c.skip.ensures.count)
     (λ x b q k. search rules) in
     rw c.from_residual.ensures (found_none c.args.section c.args.«from» (plan c.args.medium.now) (sym c.in_err-at.was ∙ at))
 
 pub returns : goal.returns
 returns c =
-    let at = position_from_yields_List (owned_by c.args.section) _ _ c.position.result c.position.ensures.ran (YieldsList-from_skip c.args.«from» (YieldsList-at c.skip.ensures.source (YieldsList-areas c.args.medium.now c.chunks_exact.ensures.rest c.chunks_exact.ensures.size)) c.skip.ensures.count)
+    let at = position_from_yields_List (owned_by c.args.section) _ _ c.position.result c.position.ensures.ran (YieldsList-from_skip c.args.«from» (YieldsList-at c.skip.ensures.source (YieldsList-areas c.args.medium.now (cc))) c.skip.ensures.count)
     (λ x b q k. search rules) in
     found_at c.args.section c.args.«from» c.in_ok-at.at (plan c.args.medium.now) (sym c.in_ok-at.was ∙ at)

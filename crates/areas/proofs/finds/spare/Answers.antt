@@ -7,5 +7,5 @@ use Rattle.areas.proofs.finds.spare.Goals as goal
 
 pub returns : goal.returns
 returns c =
-    spare_from (plan c.args.medium.now) c.position.result (position_from_yields_List (λ o. not (is_some o)) _ _ c.position.result c.position.ensures.ran (YieldsList-areas c.args.medium.now c.chunks_exact.ensures.rest c.chunks_exact.ensures.size)
+    spare_from (plan c.args.medium.now) c.position.result (position_from_yields_List (λ o. not (is_some o)) _ _ c.position.result c.position.ensures.ran (YieldsList-areas c.args.medium.now (cc))
     (λ x b q k. search rules))

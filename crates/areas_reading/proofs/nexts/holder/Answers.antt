@@ -7,4 +7,4 @@ use Rattle.areas_reading.proofs.nexts.holder.Goals as goal
 
 pub returns : goal.returns
 returns c =
-    held_from c.args.section (plan c.args.medium.now) c.find.result (find_from_yields_List (shows c.args.section) _ _ c.find.result c.find.ensures.ran (YieldsList-areas c.args.medium.now c.chunks_exact.ensures.rest c.chunks_exact.ensures.size) (λ x b q k. search rules))
+    held_from c.args.section (plan c.args.medium.now) c.find.result (find_from_yields_List (shows c.args.section) _ _ c.find.result c.find.ensures.ran (YieldsList-areas c.args.medium.now (cc)) (λ x b q k. search rules))

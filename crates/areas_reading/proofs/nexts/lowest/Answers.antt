@@ -13,6 +13,6 @@ returns c =
     let least = first_least _ (λ p. p.0) _ (λ x k q t. search rules) c.filter_map.result c.min_by_key.result c.min_by_key.ensures.ran
     (YieldsList-from_filter_map _ (found c.args.low)
     (YieldsList-at c.filter_map.ensures.source
-    (YieldsList-from_enumerate (YieldsList-at c.enumerate.ensures.source (YieldsList-areas c.args.medium.now c.chunks_exact.ensures.rest c.chunks_exact.ensures.size)) c.enumerate.ensures.count))
+    (YieldsList-from_enumerate (YieldsList-at c.enumerate.ensures.source (YieldsList-areas c.args.medium.now (cc))) c.enumerate.ensures.count))
     c.filter_map.ensures.closure (λ x r q k. search rules)) in
     subst (λ (r : Option (ℕ × ℕ)). Points r (lowest c.args.low all) all) (sym least) (points_at c.args.low all)

@@ -12,6 +12,6 @@ returns c =
     let all = plan c.args.medium.now in
     first_least _ (λ x. x.place.section) _ (λ x k q t. search rules) c.filter_map.result c.min_by_key.result c.min_by_key.ensures.ran
     (YieldsList-from_filter_map _ (overrun_by all)
-    (YieldsList-at c.filter_map.ensures.source (YieldsList-areas c.args.medium.now c.chunks_exact.ensures.rest c.chunks_exact.ensures.size))
+    (YieldsList-at c.filter_map.ensures.source (YieldsList-areas c.args.medium.now (cc)))
     c.filter_map.ensures.closure (λ x r q k. search rules))
     ∙ first_is all
