@@ -13,19 +13,19 @@ with_map none f (a ∷ b ∷ body) = f (a * 256 + b) body
 
 -- of n signers, those that stand pass with what follows the map: no bit is n or above, n − f or more stand, the length fits, and what is signed is good
 abbrev pub passes : ℕ → List ℕ → Bool → Bool → Bool
-passes n is long good = all_below n is && (nat_le (quorum n) (length is) && (long && good))
+passes n is fits good = all_below n is && (nat_le (quorum n) (length is) && (fits && good))
 
 -- the first of the four that fails
 abbrev pub verdict : ℕ → List ℕ → Bool → Bool → Option Rejection
-verdict n is long good =
+verdict n is fits good =
     cond (not (all_below n is)) (Some SignerOutside)
-    (cond (nat_lt (length is) (quorum n)) (Some TooFew) (cond (not long) (Some WrongLength) (cond (not good) (Some BadSignature) None)))
+    (cond (nat_lt (length is) (quorum n)) (Some TooFew) (cond (not fits) (Some WrongLength) (cond (not good) (Some BadSignature) None)))
 
 -- what each reason says
 abbrev pub Says : ℕ → List ℕ → Bool → Bool → Rejection → Type 0
-Says n is long good UnknownEpoch = ⊥
-Says n is long good NoMap = ⊥
-Says n is long good SignerOutside = all_below n is ≡ false
-Says n is long good TooFew = length is < quorum n
-Says n is long good WrongLength = long ≡ false
-Says n is long good BadSignature = good ≡ false
+Says n is fits good UnknownEpoch = ⊥
+Says n is fits good NoMap = ⊥
+Says n is fits good SignerOutside = all_below n is ≡ false
+Says n is fits good TooFew = length is < quorum n
+Says n is fits good WrongLength = fits ≡ false
+Says n is fits good BadSignature = good ≡ false

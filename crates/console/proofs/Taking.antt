@@ -4,9 +4,6 @@ use Rattle.console_forms.specs.Reading.{Said as FormsSaid, Answers}
 use Rattle.console_forms.specs.declared.answers.Answer.{Answer as FormsAnswer}
 use Rattle.console_forms.specs.declared.refusals.Refusal.{Refusal as FormsRefusal}
 use Rattle.console_journal.specs.Held.{Held as Journal}
-use Rattle.console_journal.specs.Obeying.{Taken as JournalTaken}
-use Rattle.console_journal.specs.declared.answers.Answer.{Answer as JournalsAnswer}
-use Rattle.console_journal.specs.declared.answers.Refusal.{Refusal as JournalsRefusal}
 use Rattle.console_provider.specs.Doing.{after as trial_after, Taken as ProvidersTaken}
 use Rattle.console_provider.specs.Trials.{Held}
 use Rattle.console_provider.specs.declared.answers.Answer.{Answer as ProvidersAnswer}
@@ -21,9 +18,9 @@ use Rattle.tip_commands.specs.Reading.{Said as TipsSaid}
 use Rattle.console.specs.Heard.{Heard, taken_by, after, Replied, Journaled}
 use Rattle.console.specs.States.{State}
 use Rattle.console.specs.declared.answers.Answer.{Answer}
-use Rattle.console.specs.declared.answers.Answer.TheVariants.{Forms, Providers, Journals}
+use Rattle.console.specs.declared.answers.Answer.TheVariants.{Forms, Providers}
 use Rattle.console.specs.declared.refusals.Refused.{Refused}
-use Rattle.console.specs.declared.refusals.Refused.TheVariants.{Forms as FormsRefused, Providers as ProvidersRefused, Journals as JournalsRefused}
+use Rattle.console.specs.declared.refusals.Refused.TheVariants.{Forms as FormsRefused, Providers as ProvidersRefused}
 
 -- the reply of the console where a part answers r
 abbrev pub replied : {A E : Type 0} → (A → Answer) → (E → Refused) → Result A E → Result (Option Answer) Refused

@@ -1,10 +1,13 @@
 -- What is printed of an answer, of a refusal and of a summary. Assumes nothing.
-use Rattle.std.specs.Prelude.{ℕ, List, ◌++◌, Some, None, codes, decimal, Option}
+use Rattle.std.specs.Prelude.{ℕ, cond, List, [], ◌∷◌, ◌++◌, length, take, Some, None, codes, decimal, Option, nat_lt}
+use Rattle.std.specs.Char.{is_ascii_graphic}
+use Rattle.std.specs.List.{flat_map}
 use Rattle.console_forms.specs.Printed.{answer_line as forms_answer, refusal_line as forms_refusal}
 use Rattle.console_forms.specs.Reading.{said}
 use Rattle.console_journal.specs.Printed.{answer_text as journals_answer, refusal_line as journals_refusal}
 use Rattle.console_provider.specs.Printed.{answer_line as providers_answer, refusal_line as providers_refusal}
 use Rattle.console_tips.specs.Printed.{answer_line as tips_answer, refusal_line as tips_refusal}
+use Rattle.text.specs.Hex.{hex_of}
 use Rattle.types.specs.Numbers.{Height}
 use Rattle.console.specs.declared.answers.Answer.{Answer}
 use Rattle.console.specs.declared.answers.Answer.TheVariants.{Tips as TipsAnswer, Forms as FormsAnswer, Providers as ProvidersAnswer, Journals as JournalsAnswer}
@@ -18,13 +21,20 @@ answer_line (FormsAnswer a) = forms_answer (said a)
 answer_line (ProvidersAnswer a) = providers_answer a
 answer_line (JournalsAnswer a) = journals_answer a
 
--- what a refusal prints; of a word that is no command nothing is said here
-abbrev pub refused_line : Refused → Option (List ℕ)
-refused_line (TipsRefused e) = Some (tips_refusal e)
-refused_line (FormsRefused e) = Some (forms_refusal e)
-refused_line (ProvidersRefused e) = Some (providers_refusal e)
-refused_line (JournalsRefused e) = Some (journals_refusal e)
-refused_line (Unknown w) = None
+-- a byte as it can be printed: itself where it is a printing ASCII character, else \x and its two hex digits
+abbrev pub shown : ℕ → List ℕ
+shown b = cond (is_ascii_graphic b) (b ∷ []) (codes "\\x" ++ hex_of (b ∷ []))
+
+-- at most the first 32 bytes of a word, as they can be printed, and two dots where there are more
+abbrev pub excerpt : List ℕ → List ℕ
+excerpt w = flat_map shown (take 32 w) ++ cond (nat_lt 32 (length w)) (codes "..") []
+
+abbrev pub refused_line : Refused → List ℕ
+refused_line (TipsRefused e) = tips_refusal e
+refused_line (FormsRefused e) = forms_refusal e
+refused_line (ProvidersRefused e) = providers_refusal e
+refused_line (JournalsRefused e) = journals_refusal e
+refused_line (Unknown w) = codes "refused: no command is named " ++ (excerpt w.now ++ codes ", --help lists them")
 
 abbrev pub tip_text : Option Height → List ℕ
 tip_text None = codes " refused, no safe tip"

@@ -3,6 +3,7 @@
 
 mod answers;
 mod consoles;
+mod excerpts;
 mod parts;
 mod refusals;
 mod summaries;

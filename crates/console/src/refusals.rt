@@ -1,6 +1,7 @@
 //! Why a line is refused, and what is printed of it.
-ghost use Rattle.std.specs.Prelude.{◌≡◌};
+ghost use Rattle.std.specs.Prelude.{◌≡◌, Some};
 
+use crate::excerpts::Excerpt;
 use console_tips::Refusal;
 use std::fmt;
 use tip_commands::Fault;
@@ -71,31 +72,11 @@ impl From<console_journal::Refusal> for Refused<'_> {
     }
 }
 
-/// The first bytes of a word, as they can be printed: a byte that is no ASCII character stands as two hex digits.
-#[derive(Clone, Copy)]
-struct Excerpt<'a>(&'a [u8]);
-
-impl fmt::Display for Excerpt<'_> {
-    fn fmt<W: fmt::Write>(&self, f: &mut fmt::Formatter<W>) -> fmt::Result {
-        for &byte in self.0.iter().take(32) {
-            if byte.is_ascii_graphic() {
-                f.write_char(char::from(byte))?;
-            } else {
-                write!(f, "\\x{byte:02x}")?;
-            }
-        }
-        if self.0.len() > 32 {
-            f.write_str("..")?;
-        }
-        Ok(())
-    }
-}
-
 // kept: thiserror's derive would write this impl, and promises nothing of what it prints
 impl fmt::Display for Refused<'_> {
     ghost use Rattle.console.specs.Printed.{refused_line};
 
-    ghost output = { refused_line };
+    ghost output = { λ e. Some (refused_line e) };
 
     fn fmt<W: fmt::Write>(&self, f: &mut fmt::Formatter<W>) -> fmt::Result {
         match *self {

@@ -25,9 +25,9 @@ use Rattle.console_provider.specs.Told.{Told, chosen, known, signed, accepted, r
 use Rattle.console_provider.specs.Trials.{Held}
 
 -- the refusal says that no memory is left
-abbrev pub forgets : Refusal → Bool
-forgets (Words e) = reading.forgets e
-forgets refusal = false
+abbrev pub out_of_memory : Refusal → Bool
+out_of_memory (Words e) = reading.out_of_memory e
+out_of_memory refusal = false
 
 -- what stands behind the map in the certificates of a provider
 abbrev pub body_of : Kind → Meaning
@@ -86,13 +86,13 @@ next (asks e q) t = t
 
 -- what is answered to a command, over any list that has the epochs: where their keys lie does not matter
 abbrev pub Answered : Said → Held → Result Answer Refusal → Type 0
-Answered s t r = (ss : List EpochSet) → map shown ss ≡ about s t.sets → OrNoMemory forgets (result_map told r) (answer s t.kind ss)
+Answered s t r = (ss : List EpochSet) → map shown ss ≡ about s t.sets → OrNoMemory out_of_memory (result_map told r) (answer s t.kind ss)
 
 -- what is answered to a line: nothing where its first word is no command of this part, a fault of its words, or the answer to its command
 abbrev pub Taken : Option (Result Said Fault) → Held → Option (Result Answer Refusal) → Type 0
 Taken None t r = r ≡ None
 Taken (Some (Ok s)) t (Some r) = Answered s t r
-Taken (Some (Err fault)) t (Some r) = OrNoMemory forgets (result_map told r) (Err (Words fault))
+Taken (Some (Err fault)) t (Some r) = OrNoMemory out_of_memory (result_map told r) (Err (Words fault))
 Taken meant t None = ⊥
 
 -- a trial after a line; what is refused changes nothing

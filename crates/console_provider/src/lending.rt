@@ -3,7 +3,7 @@ ghost use Rattle.std.specs.Prelude.{◌≡◌, ◌∷◌, [], ◌++◌, map, IfO
 ghost use Rattle.fields.specs.Results.{OrNoMemory};
 ghost use Rattle.provider_commands.specs.Sets.{given, shown};
 ghost use Rattle.trial.specs.Faults.{list_fault};
-ghost use Rattle.console_provider.specs.Doing.{forgets};
+ghost use Rattle.console_provider.specs.Doing.{out_of_memory};
 ghost use Rattle.console_provider.specs.Lending.{lent, passed};
 
 use crate::Refusal;
@@ -39,7 +39,7 @@ pub(crate) fn check_added(
     sets: &[SignerSet],
     added: &SignerSet,
 ) -> Result<(), Refusal>
-    ensures { OrNoMemory forgets result (passed (list_fault (map lent (sets.now ++ added.now ∷ [])))) }
+    ensures { OrNoMemory out_of_memory result (passed (list_fault (map lent (sets.now ++ added.now ∷ [])))) }
 {
     let mut sets = lend_all(heap, sets)?;
     sets.push(lend(added))?;

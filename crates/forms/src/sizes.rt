@@ -20,7 +20,7 @@ pub const MAX_TIP: usize = 10;
 pub const MAX_ACK: usize = 117;
 
 /// The longest record: the kind, a height in nine groups, the digest, and the longest certificate.
-pub const MAX_RECORD: usize = 1_068;
+pub const MAX_RECORD: usize = 42 + MAX_CERTIFICATE;
 
 /// The longest message: a tip, a height and an epoch of 64 bits in ten groups each, the digest, a signer in one group, and the
 /// signature.

@@ -5,6 +5,7 @@ use Rattle.provider.specs.Laws.{signers_of}
 use Rattle.trial.specs.declared.epoch_set.EpochSet.{EpochSet}
 use Rattle.trial.specs.Trials.{accepted_among}
 
+-- what a kind of body means
 pub record Meaning : Type 0 where
   -- the body that signatures make
   pub body : List Attested → Bytes

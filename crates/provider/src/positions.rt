@@ -1,6 +1,7 @@
 //! Where a key stands among the keys of its epoch.
-ghost use Rattle.std.specs.Prelude.{◌≡◌, ◌≤◌, length};
-ghost use Rattle.provider.specs.Laws.{KeySet, position as place_of};
+ghost use Rattle.std.specs.Prelude.{◌≡◌, ◌<◌, ◌≤◌, length, None};
+ghost use Rattle.table.specs.Keys.{lower};
+ghost use Rattle.provider.specs.Laws.{Ascending, position as place_of};
 ghost use Rattle.provider.specs.Positions.{row_keys};
 ghost use Rattle.provider.specs.Values.{key_bytes, number};
 
@@ -24,9 +25,10 @@ fn rows(keys: &[PublicKey]) -> ArrayVec<Entry<PublicKey, ()>, 16>
     rows
 }
 
-/// The position of `key` among the keys of an epoch, found in their ordered table.
+/// The position of `key` among keys that ascend, at most 16 as an epoch has, found in their ordered table; none among more.
 pub fn position(keys: &[PublicKey], key: &PublicKey) -> Option<Participant>
-    ensures { KeySet (key_bytes keys.now) → number result ≡ place_of key.now.bytes (key_bytes keys.now) }
+    ensures placed { length keys.now ≤ 16 → Ascending lower (key_bytes keys.now) → number result ≡ place_of key.now.bytes (key_bytes keys.now) }
+    ensures too_many { 16 < length keys.now → result ≡ None }
 {
     if keys.len() > 16 {
         return None;

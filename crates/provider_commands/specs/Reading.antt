@@ -47,9 +47,9 @@ said (EpochSet s) = adds (given s)
 said (Ask e q) = asks e.0 (query q)
 
 -- the fault says that no memory is left
-abbrev pub forgets : Fault → Bool
-forgets (Word e) = no_memory e
-forgets fault = false
+abbrev pub out_of_memory : Fault → Bool
+out_of_memory (Word e) = no_memory e
+out_of_memory fault = false
 
 -- what is read of words alone
 abbrev pub worded : {A : Type 0} → Result A fault.Fault → Result A Fault
@@ -146,4 +146,4 @@ command name ws =
 abbrev pub Reads : Option (Result Command Fault) → Option (Result Said Fault) → Type 0
 Reads None meant = meant ≡ None
 Reads (Some r) None = ⊥
-Reads (Some r) (Some meant) = OrNoMemory forgets (result_map said r) meant
+Reads (Some r) (Some meant) = OrNoMemory out_of_memory (result_map said r) meant

@@ -3,7 +3,7 @@ ghost use Rattle.std.specs.Prelude.{◌≡◌, ◌<◌, [], ◌==◌, length, ma
 ghost use Rattle.fields.specs.Results.{result_map, no_memory, OrNoMemory};
 ghost use Rattle.provider.specs.Values.{attested, key_bytes, number};
 ghost use Rattle.text.specs.Words.{words};
-ghost use Rattle.provider_commands.specs.Reading.{key_in, keys_from, own_in, attestation_in, attestations_from, said, said_provider, said_set, said_sign, said_accepts, said_assemble, said_certificate, command, forgets, Reads};
+ghost use Rattle.provider_commands.specs.Reading.{key_in, keys_from, own_in, attestation_in, attestations_from, said, said_provider, said_set, said_sign, said_accepts, said_assemble, said_certificate, command, out_of_memory, Reads};
 
 use crate::{Command, Fault, Kind, Question, SignerSet};
 use fields::Fault::Missing;
@@ -61,7 +61,7 @@ fn attestation_at(word: &[u8], place: usize) -> Result<Attestation, Fault>
 
 /// The keys that the words from the third one on spell.
 fn read_keys(heap: Global, args: &[u8]) -> Result<Vec<PublicKey>, Fault>
-    ensures { OrNoMemory forgets (result_map (λ keys. key_bytes keys.items) result) (keys_from [] (words args.now)) }
+    ensures { OrNoMemory out_of_memory (result_map (λ keys. key_bytes keys.items) result) (keys_from [] (words args.now)) }
 {
     let mut keys = Vec::new(heap);
     for word in Words::new(args) {
@@ -73,7 +73,7 @@ fn read_keys(heap: Global, args: &[u8]) -> Result<Vec<PublicKey>, Fault>
 
 /// The signatures that the words from the second one on spell.
 fn read_attestations(heap: Global, args: &[u8]) -> Result<Vec<Attestation>, Fault>
-    ensures { OrNoMemory forgets (result_map (λ attestations. map attested attestations.items) result) (attestations_from [] (words args.now)) }
+    ensures { OrNoMemory out_of_memory (result_map (λ attestations. map attested attestations.items) result) (attestations_from [] (words args.now)) }
 {
     let mut attestations = Vec::new(heap);
     for word in Words::new(args) {
@@ -100,7 +100,7 @@ fn read_provider(mut line: Line<'_>) -> Result<Command, Fault>
 
 /// What an `epoch-set` line says.
 fn read_set(heap: Global, args: &[u8]) -> Result<Command, Fault>
-    ensures { OrNoMemory forgets (result_map said result) (said_set (words args.now)) }
+    ensures { OrNoMemory out_of_memory (result_map said result) (said_set (words args.now)) }
 {
     let (epoch, rest) = split_word(args).ok_or(Missing { place: 1 })?;
     let epoch = Epoch::new(number_at(epoch, 1, u64::MAX)?);
@@ -138,7 +138,7 @@ fn read_accepts(heap: Global, mut line: Line<'_>) -> Result<Command, fields::Fau
 
 /// What an `assemble` line says.
 fn read_assemble(heap: Global, args: &[u8]) -> Result<Command, Fault>
-    ensures { OrNoMemory forgets (result_map said result) (said_assemble (words args.now)) }
+    ensures { OrNoMemory out_of_memory (result_map said result) (said_assemble (words args.now)) }
 {
     let (epoch, rest) = split_word(args).ok_or(Missing { place: 1 })?;
     let epoch = Epoch::new(number_at(epoch, 1, u64::MAX)?);

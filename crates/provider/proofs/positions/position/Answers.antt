@@ -6,14 +6,14 @@ use Rattle.provider.specs.Values.{number}
 use Rattle.provider.proofs.Places.{found}
 use Rattle.provider.proofs.positions.position.Goals as goal
 
-pub returns-in_err-place : goal.returns-in_err-place
-returns-in_err-place c = λ known.
+pub returns-in_err-place-clause-placed : goal.returns-in_err-place-clause-placed
+returns-in_err-place-clause-placed c = λ few up.
     ap number c.from_residual.ensures
     ∙ sym c.in_err-place.was
-    ∙ found c.args.key.now c.args.keys.now c.rows.result.items _ c.rows.ensures known.ascending (c.position.ensures.placed ∙ ap (place earlier c.args.key.now) c.as_slice.ensures.value)
+    ∙ found c.args.key.now c.args.keys.now c.rows.result.items _ c.rows.ensures up (c.position.ensures.placed ∙ ap (place earlier c.args.key.now) c.as_slice.ensures.value)
 
-pub returns : goal.returns
-returns c = λ known.
+pub returns-clause-placed : goal.returns-clause-placed
+returns-clause-placed c = λ few up.
     ap (λ (p : Participant). Some p.0) c.new.ensures
     ∙ sym c.in_ok-place.was
-    ∙ found c.args.key.now c.args.keys.now c.rows.result.items _ c.rows.ensures known.ascending (c.position.ensures.placed ∙ ap (place earlier c.args.key.now) c.as_slice.ensures.value)
+    ∙ found c.args.key.now c.args.keys.now c.rows.result.items _ c.rows.ensures up (c.position.ensures.placed ∙ ap (place earlier c.args.key.now) c.as_slice.ensures.value)
