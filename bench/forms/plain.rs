@@ -229,6 +229,7 @@ impl<'a> Writer<'a> {
         self.at += 1;
     }
 
+    #[inline(always)]
     fn uint(&mut self, mut n: u64) {
         while n >= 0x80 {
             self.byte(n as u8 | 0x80);
@@ -237,6 +238,7 @@ impl<'a> Writer<'a> {
         self.byte(n as u8);
     }
 
+    #[inline(always)]
     fn bytes(&mut self, bytes: &[u8]) {
         self.out[self.at..][..bytes.len()].copy_from_slice(bytes);
         self.at += bytes.len();

@@ -1,4 +1,4 @@
-//! How an area is written, byte by byte, as long as the power lasts.
+//! How an area is written: the bytes that the power lasts for, in their order.
 ghost use Rattle.std.specs.Prelude.{◌≡◌, ◌+◌, ◌<◌, ◌≤◌, length, slice_set};
 ghost use Rattle.area.specs.Edits.{put, framed, added, begun};
 ghost use Rattle.area.specs.Writes.{Appended, Freed, Started, Stored};

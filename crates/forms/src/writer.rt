@@ -48,6 +48,7 @@ impl<'a> Writer<'a> {
     }
 
     /// Writes `n`, group by group.
+    #[inline(always)]
     pub(crate) fn uint(&mut self, n: u64)
         requires { HasRoom (length (spell n)) self.old }
         ensures { Puts (spell n) self.old self.new }
@@ -61,6 +62,7 @@ impl<'a> Writer<'a> {
     }
 
     /// Writes these bytes as they are.
+    #[inline(always)]
     pub(crate) fn bytes(&mut self, bytes: &[u8])
         requires { HasRoom (length bytes.now) self.old }
         ensures { Puts bytes.now self.old self.new }
