@@ -35,7 +35,7 @@ impl Parts {
             heap,
             board: Board::new(),
             trial: Trial::new(heap),
-            journals: Journals::new(),
+            journals: Journals::default(),
         }
     }
 

@@ -14,7 +14,7 @@ use slots::Slot;
 use std::alloc::Global;
 
 /// The journal that is open, if one is.
-#[derive(Drop)]
+#[derive(Default, Drop)]
 pub struct Journals {
     open: Option<OpenJournal>,
 }
@@ -28,13 +28,6 @@ fn count_areas(len: usize) -> Option<u64>
 }
 
 impl Journals {
-    /// No journal is open.
-    pub fn new() -> Self
-        ensures { held result ≡ None }
-    {
-        Self { open: None }
-    }
-
     /// Opens a new byte journal.
     fn open_bytes(&mut self, heap: Global, areas: u64) -> Result<Answer, Refusal>
         ensures { Obeys (new_bytes areas) (held self.old) result (held self.new) }
