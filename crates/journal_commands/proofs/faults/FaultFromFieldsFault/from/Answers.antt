@@ -1,0 +1,5 @@
+use Rattle.std.proofs.Common.{rules}
+use Rattle.journal_commands.proofs.faults.FaultFromFieldsFault.from.Goals as goal
+
+pub returns : goal.returns
+returns c = search rules
