@@ -17,7 +17,7 @@ import tempfile
 from model import AREA, Console
 
 LINES = ["append 1 0101", "append 2 -", "prune 2", "power 7", "append 3 0203", "power on", "append 3 04", "damage 5 9"]
-CALLS = "openat,write,fsync,rename,close"
+CALLS = "openat,flock,write,fsync,rename,close"
 
 
 class Wrong(Exception):
@@ -47,6 +47,22 @@ def states(lines, areas=2):
     return found
 
 
+class Talk:
+    """A program that is asked line by line."""
+
+    def __init__(self, program):
+        self.child = subprocess.Popen([program], stdin=subprocess.PIPE, stdout=subprocess.PIPE, text=True, bufsize=1)
+
+    def ask(self, line):
+        self.child.stdin.write(line + "\n")
+        self.child.stdin.flush()
+        return self.child.stdout.readline().rstrip("\n")
+
+    def kill(self):
+        self.child.kill()
+        self.child.wait()
+
+
 def talk(program):
     """Line by line: when a line is answered, the file holds what the model's areas hold."""
     count = 0
@@ -56,23 +72,16 @@ def talk(program):
                  for _ in range(12)]
         lines = [line if line[-1] != " " else line + "-" for line in lines]
         path = pathlib.Path(f"talk{seed}")
-        child = subprocess.Popen([program], stdin=subprocess.PIPE, stdout=subprocess.PIPE, text=True, bufsize=1)
-
-        def ask(line):
-            child.stdin.write(line + "\n")
-            child.stdin.flush()
-            return child.stdout.readline().rstrip("\n")
-
-        must(ask(f"journal file {path} 2") == f"journal file {path}, 2 areas", "a new file is opened")
+        child = Talk(program)
+        must(child.ask(f"journal file {path} 2") == f"journal file {path}, 2 areas", "a new file is opened")
         console = Console()
         console.answer("journal bytes 2")
         for line in lines:
             wanted = console.answer(line)
-            must([ask(line)] == wanted, f"{line}: {wanted}")
+            must([child.ask(line)] == wanted, f"{line}: {wanted}")
             must(path.read_bytes() == bytes(console.journal.medium), f"{line}: it is in the file when it is answered")
             count += 1
         child.kill()
-        child.wait()
         must(run(program, [f"journal file {path}", "read"])[1:-1] == reread(path), "a killed program's file is read again")
     return count
 
@@ -115,7 +124,7 @@ def failing(program):
     """Each system call fails once: a line that cannot be kept is refused, and the journal closed."""
     left = states(LINES)
     refused = 0
-    for call, error in [("openat", "EACCES"), ("write", "ENOSPC"), ("fsync", "EIO"), ("rename", "EACCES")]:
+    for call, error in [("openat", "EACCES"), ("flock", "ENOLCK"), ("write", "ENOSPC"), ("fsync", "EIO"), ("rename", "EACCES")]:
         for when in range(1, 60):
             path = pathlib.Path("failing")
             path.write_bytes(left[0])
@@ -156,14 +165,14 @@ def wrong_files(program):
         if size is not None:
             pathlib.Path(name).write_bytes(b"\1" * size)
         answers = run(program, [f"journal file {name}", "append 1 01"])
-        must(answers[0].startswith("refused: ") and reason in answers[0], f"{name}: {answers[0]}")
+        must(answers[0].startswith("refused: ") and reason in answers[0] and (size is not None or f" {name}: " in answers[0]), f"{name}: {answers[0]}")
         must(answers[1].startswith("refused: no journal is open"), f"{name}: no journal is open")
         must(not pathlib.Path(name).exists() if size is None else pathlib.Path(name).read_bytes() == b"\1" * size, f"{name} stays")
     os.mkdir("folder")
-    must(run(program, ["journal file folder"])[0] == "refused: it is no file", "a folder")
-    must(run(program, ["journal file short 2"])[0] == "refused: a file is there already", "a new file over an old one")
+    must(run(program, ["journal file folder"])[0] == "refused: folder: it is no file", "a folder")
+    must(run(program, ["journal file short 2"])[0] == "refused: short: a file is there already", "a new file over an old one")
     must(pathlib.Path("short").read_bytes() == b"\1" * (AREA - 1), "the old one stays")
-    must("No such file" in run(program, ["journal file none/new 2"])[0], "a new file in a folder that is not there")
+    must(run(program, ["journal file none/new 2"])[0].startswith("refused: none/new: No such file"), "a new file in a folder that is not there")
     # a journal that was open stays open where a line cannot open another
     answers = run(program, ["journal file stays 1", "append 1 01", "journal file missing", "append 1 02", "read"])
     must(answers[3:6] == ["appended", "record 1 0 01", "record 1 1 02"], f"the open one stays: {answers}")
@@ -186,12 +195,41 @@ def read_only(program):
     os.chmod(".", 0o755)
     answers = run(program, ["journal file locked/j", "read", "append 1 02", "append 1 03", "journal file locked/new 1"], other)
     must(answers[1:3] == ["record 1 0 01", "read 1 records"], f"it is read: {answers}")
-    must(answers[3].startswith("refused: the journal cannot be kept, and is closed: Permission denied"), f"{answers}")
+    must(answers[3].startswith("refused: the journal cannot be kept, and is closed: its lock, a file beside it, may not be written"), f"{answers}")
     must(answers[4].startswith("refused: no journal is open"), "it is closed")
-    must(answers[5].startswith("refused: Permission denied"), "no new file there")
-    must(pathlib.Path("locked/j").read_bytes() == before and os.listdir("locked") == ["j"], "nothing changed")
+    must(answers[5].startswith("refused: locked/new: Permission denied"), "no new file there")
+    must(pathlib.Path("locked/j").read_bytes() == before and sorted(os.listdir("locked")) == ["j", "j.lock"], "nothing changed")
     os.chmod("locked", 0o755)
     return 5
+
+
+def two_programs(program):
+    """A journal that one program has open is opened by no other, until that lets it go or ends."""
+    one, other = Talk(program), Talk(program)
+    cases = [
+        (one, "journal file both 1", "journal file both, 1 areas"),
+        (other, "journal file both", "refused: both: it is open already"),
+        (other, "journal file ./both", "refused: ./both: it is open already"),
+        (one, "append 1 01", "appended"),
+        (one, "journal file both", "journal file both, 1 areas"),
+        (one, "append 1 02", "appended"),
+        (one, "journal file ./both", "refused: ./both: it is open already"),
+        (other, "journal file both", "refused: both: it is open already"),
+        (other, "read", 'refused: no journal is open, a line "journal .." comes first'),
+        (one, "journal bytes 1", "journal bytes, 1 areas"),
+        (other, "journal file both", "journal file both, 1 areas"),
+        (other, "append 1 03", "appended"),
+        (one, "journal file both", "refused: both: it is open already"),
+    ]
+    for child, line, wanted in cases:
+        answer = child.ask(line)
+        must(answer == wanted, f"two programs: {line}: {answer}")
+    other.kill()
+    must(one.ask("journal file both") == "journal file both, 1 areas", "a killed program holds no lock")
+    one.kill()
+    records = ["record 1 0 01", "record 1 1 02", "record 1 2 03"]
+    must(run(program, ["journal file both", "read"])[1:4] == records, "what both appended is there")
+    return len(cases) + 2
 
 
 def main():
@@ -205,6 +243,7 @@ def main():
         program = f"{folder}/program"
         print(f"lines that are in the file when they are answered: {talk(program)}")
         print(f"wrong files: {wrong_files(program)}")
+        print(f"two programs at one file: {two_programs(program)}")
         print(f"read-only folder: {read_only(program)}")
         if not shutil.which("strace"):
             print("no strace: not killed at each system call, and none was made to fail")

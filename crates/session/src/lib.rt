@@ -1,12 +1,17 @@
 //! A program over a console: standard input line by line, and a reply to each.
 #![tactic(auto)]
 
-use crate::files::Session;
 use anyhow::{Context, bail};
-use std::io::{BufRead, BufReader};
+use std::io::{BufRead, BufReader, BufWriter, Write};
 use std::{env, fs};
 
-mod files;
+mod journal_file;
+mod replies;
+mod sessions;
+
+use journal_file::JournalFile;
+pub use replies::Reply;
+pub use sessions::Session;
 
 const HELP: &str = "Reads commands from standard input, one a line, and prints what each did.
 
@@ -64,20 +69,26 @@ aggregation does (aggregation --help lists them). Each file's part begins with a
 name. A line `new` ends a session, with its summary, and begins another.";
 
 /// Answers these lines to their end. Where they are parted, a line `new` ends a session and begins another.
-fn play<R: BufRead + Drop>(rt: &HostRuntime, input: R, parted: bool) -> anyhow::Result<()> {
+fn play<R: BufRead + Drop, W: Write>(
+    rt: &HostRuntime,
+    input: R,
+    out: &mut W,
+    parted: bool,
+) -> anyhow::Result<()> {
     let mut session = Session::new(rt.alloc());
     for line in input.split(rt.alloc(), b'\n') {
         let line = line?;
         if parted && line.as_slice() == b"new".as_slice() {
             let summary = session.summary();
-            println!(rt; "{summary}")?;
+            writeln!(out, "{summary}")?;
             session = Session::new(rt.alloc());
             continue;
         }
-        session.answer(rt, &line)?;
+        session.answer(rt, &line, out)?;
     }
     let summary = session.summary();
-    println!(rt; "{summary}")?;
+    writeln!(out, "{summary}")?;
+    out.flush()?;
     Ok(())
 }
 
@@ -90,7 +101,8 @@ pub fn run(rt: &HostRuntime) -> anyhow::Result<()> {
         println!(rt; "{HELP}")?;
         return Ok(());
     }
-    play(rt, BufReader::new(rt.alloc(), rt.stdin())?, false)
+    let mut out = BufWriter::new(rt.alloc(), rt.stdout())?;
+    play(rt, BufReader::new(rt.alloc(), rt.stdin())?, &mut out, false)
 }
 
 /// Replays the recorded sessions in the files that the arguments name, one after the other; says what it reads where
@@ -101,10 +113,11 @@ pub fn replay(rt: &HostRuntime) -> anyhow::Result<()> {
         println!(rt; "{REPLAY_HELP}")?;
         return Ok(());
     }
+    let mut out = BufWriter::new(rt.alloc(), rt.stdout())?;
     for name in files {
         let file = fs::open(rt, name.as_str()).context(format_args!("opening {name}"))?;
-        println!(rt; "recording {name}")?;
-        play(rt, BufReader::new(rt.alloc(), file)?, true).context(format_args!(
+        writeln!(out, "recording {name}")?;
+        play(rt, BufReader::new(rt.alloc(), file)?, &mut out, true).context(format_args!(
             "replaying {name}"
         ))?;
     }
