@@ -1,0 +1,5 @@
+use Rattle.std.proofs.Common.{rules}
+use Rattle.trial.proofs.epoch_list.EpochList.keys.Goals as goal
+
+pub returns : goal.returns
+returns c = search rules
