@@ -1,3 +1,4 @@
 pub mod Files
 pub mod Replies
 pub mod Sessions
+pub mod Playing

@@ -135,7 +135,10 @@ impl JournalFile {
         ensures { OnOk result (bytes_of self.new ≡ bytes.now) }
     {
         if self.held.as_slice() != bytes {
-            ensure!(self.lock.is_some(), "its lock, a file beside it, may not be written");
+            ensure!(
+                self.lock.is_some(),
+                "its lock, a file beside it, may not be written"
+            );
             write_whole(rt, self.path.as_str(), bytes)?;
             self.held = bytes.to_vec(rt.alloc())?;
         }

@@ -2,14 +2,16 @@
 #![tactic(auto)]
 
 use anyhow::{Context, bail};
-use std::io::{BufRead, BufReader, BufWriter, Write};
+use std::io::{BufReader, BufWriter, Write};
 use std::{env, fs};
 
 mod journal_file;
+mod playing;
 mod replies;
 mod sessions;
 
 use journal_file::JournalFile;
+pub use playing::play;
 pub use replies::Reply;
 pub use sessions::Session;
 
@@ -67,30 +69,6 @@ const REPLAY_HELP: &str = "Usage: replay FILE ..
 Replays recorded sessions: reads the commands that each file has, one a line, and prints what each did, as
 aggregation does (aggregation --help lists them). Each file's part begins with a line `recording` and the file's
 name. A line `new` ends a session, with its summary, and begins another.";
-
-/// Answers these lines to their end. Where they are parted, a line `new` ends a session and begins another.
-fn play<R: BufRead + Drop, W: Write>(
-    rt: &HostRuntime,
-    input: R,
-    out: &mut W,
-    parted: bool,
-) -> anyhow::Result<()> {
-    let mut session = Session::new(rt.alloc());
-    for line in input.split(rt.alloc(), b'\n') {
-        let line = line?;
-        if parted && line.as_slice() == b"new".as_slice() {
-            let summary = session.summary();
-            writeln!(out, "{summary}")?;
-            session = Session::new(rt.alloc());
-            continue;
-        }
-        session.answer(rt, &line, out)?;
-    }
-    let summary = session.summary();
-    writeln!(out, "{summary}")?;
-    out.flush()?;
-    Ok(())
-}
 
 /// Runs a console over standard input, or prints what it reads where the one argument is `--help`.
 pub fn run(rt: &HostRuntime) -> anyhow::Result<()> {
