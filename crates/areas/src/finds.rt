@@ -56,7 +56,7 @@ fn is_free(area: &[u8]) -> bool
     area::section(area).is_none()
 }
 
-/// The first free area.
+/// A free area.
 pub fn spare(medium: &[u8]) -> Option<usize>
     ensures { MatchOption result (spared (plan medium.now) ≡ false) (λ i. (spared (plan medium.now) ≡ true) × (i < length (plan medium.now)) × (slice_index_or (plan medium.now) i None ≡ None)) }
 {

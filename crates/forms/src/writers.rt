@@ -69,7 +69,8 @@ fn tip_ack_len(message: &NewTipAck<'_>) -> usize
 }
 
 // kept: two functions, here and with the lengths and the cursor: a trait for what is written, with its meaning, is longer than both
-/// Writes a record, and answers how many bytes it took.
+/// Writes a record, and answers how many bytes it took. Numbers past the limits of a record are written all the same,
+/// and such a record is not read back.
 pub fn write_activity(out: &mut [u8], activity: &NewActivity<'_>) -> Result<usize, Short>
     ensures answer { result ≡ fitted (write (activity_from activity.now)) out.old }
     ensures after { out.new ≡ laid (write (activity_from activity.now)) out.old }
@@ -82,7 +83,8 @@ pub fn write_activity(out: &mut [u8], activity: &NewActivity<'_>) -> Result<usiz
     Ok(writer.at)
 }
 
-/// Writes a message, and answers how many bytes it took.
+/// Writes a message, and answers how many bytes it took. A signer past 15 is written all the same, and such a message is not
+/// read back.
 pub fn write_message(out: &mut [u8], message: &NewTipAck<'_>) -> Result<usize, Short>
     ensures answer { result ≡ fitted (write_message (message_from message.now)) out.old }
     ensures after { out.new ≡ laid (write_message (message_from message.now)) out.old }

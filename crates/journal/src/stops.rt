@@ -7,7 +7,7 @@ use crate::places::Overrun;
 /// Why an operation that changes a journal stopped.
 #[derive(Clone, Copy, Debug, PartialEq, Eq, Hash)]
 pub enum Stop {
-    /// The medium has no room.
+    /// The record is too long, or the medium has no room.
     Full,
     /// The section is below the bound.
     Pruned,

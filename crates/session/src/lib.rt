@@ -72,15 +72,21 @@ name. A line `new` ends a session, with its summary, and begins another.";
 
 /// Runs a console over standard input, or prints what it reads where the one argument is `--help`.
 pub fn run(rt: &HostRuntime) -> anyhow::Result<()> {
-    if let Some(word) = env::args(rt)?.nth(1) {
-        if word.as_str() != "--help" {
-            bail!("unknown argument {word}, the only one is --help");
-        }
-        println!(rt; "{HELP}")?;
-        return Ok(());
+    let mut words = env::args(rt)?.skip(1);
+    let Some(first) = words.next() else {
+        let mut out = BufWriter::new(rt.alloc(), rt.stdout())?;
+        return play(rt, BufReader::new(rt.alloc(), rt.stdin())?, &mut out, false);
+    };
+    let unknown = if first.as_str() == "--help" {
+        words.next()
+    } else {
+        Some(first)
+    };
+    if let Some(word) = unknown {
+        bail!("unknown argument {word}, the only one is --help, alone");
     }
-    let mut out = BufWriter::new(rt.alloc(), rt.stdout())?;
-    play(rt, BufReader::new(rt.alloc(), rt.stdin())?, &mut out, false)
+    println!(rt; "{HELP}")?;
+    Ok(())
 }
 
 /// Replays the recorded sessions in the files that the arguments name, one after the other; says what it reads where

@@ -25,6 +25,7 @@ total es = weigh (λ _. true) es
 abbrev pub more : Height → Rows → Rows
 more h es = put shorter h (unwrap_or (at shorter h es) 0 + 1) es
 
+-- a table after one of the c tips that it counts at the height h goes; where it counts none there, it stays
 abbrev pub taken : Height → Option ℕ → Rows → Rows
 taken h None es = es
 taken h (Some c) es = cond (nat_lt 1 c) (put shorter h (c - 1) es) (without shorter h es)
