@@ -1,6 +1,7 @@
 -- Lines that are answered one after the other, seen from the middle.
 use Rattle.std.proofs.Common.{◌≡◌, ℕ, ◌<◌, Bool, List, [], length, Option, Some, None, Result, Ok, Err, OnOk, IfSome, sym, subst, ◌∙◌}
-use Rattle.session.specs.Playing.{Plays, ended, turned, Turns, PlaysAll, IsFresh, Closes}
+use Rattle.session.specs.Playing.{Plays, ended, turned, Turns, PlaysAll, Closes}
+use Rattle.session.specs.Sessions.{IsFresh}
 use Rattle.std.specs.Io.BufRead.{first_piece, drop_through}
 use Rattle.std.specs.Io.KnownBytes.{IsAtEnd}
 use Rattle.session.specs.declared.sessions.Session.{Session}

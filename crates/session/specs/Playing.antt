@@ -1,30 +1,12 @@
 -- Lines that are answered one after the other. Assumes nothing.
-use Rattle.std.specs.Prelude.{◌≡◌, ℕ, ◌<◌, Bool, ◌&&◌, List, [], ◌∷◌, ◌++◌, length, None, Option, MatchBool, MatchOption, codes}
+use Rattle.std.specs.Prelude.{ℕ, ◌<◌, Bool, ◌&&◌, List, [], ◌∷◌, ◌++◌, length, Option, MatchBool, codes}
 use Rattle.std.specs.Io.BufRead.{first_piece, drop_through}
 use Rattle.std.specs.Io.KnownBytes.{Appends}
 use Rattle.std.specs.Str.{bytes_eq}
-use Rattle.console.specs.Counters.{none}
 use Rattle.console.specs.Printed.{summary_line}
-use Rattle.console.specs.States.{first, state_of}
 use Rattle.console.specs.declared.summaries.Summary.{Summary}
-use Rattle.console_journal.specs.Obeying.{held}
-use Rattle.console_tips.specs.Boards.{sitting}
-use Rattle.tips.specs.Ranks.{Safe}
-use Rattle.tips.specs.Seats.{tips_of}
-use Rattle.session.specs.Sessions.{Answers}
+use Rattle.session.specs.Sessions.{IsFresh, Sums, Answers}
 use Rattle.session.specs.declared.sessions.Session.{Session}
-
--- a session that has seen nothing
-pub record IsFresh (s : Session) : Type 0 where
-  pub console : state_of s.console.parts ≡ first
-  pub journal : held s.console.parts.journals ≡ None
-  pub counts : s.console.counts ≡ none
-  pub file : s.file ≡ None
-
--- what a session has seen so far
-pub record Sums (s : Session) (m : Summary) : Type 0 where
-  pub counts : m.counts ≡ s.console.counts
-  pub tip : MatchOption m.safe_tip (sitting s.console.parts.board ≡ []) (λ t. Safe (tips_of (sitting s.console.parts.board)) t.0)
 
 -- a session ends: its summary is printed
 abbrev pub Closes : Session → Option (List ℕ) → Option (List ℕ) → Type 0

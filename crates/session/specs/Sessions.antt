@@ -1,13 +1,17 @@
 -- What a line does to a session. Assumes nothing.
-use Rattle.std.specs.Prelude.{◌≡◌, ℕ, true, false, List, length, Some, None, Ok, Err, Option, Result, IsSome, IfSome, MatchOption}
+use Rattle.std.specs.Prelude.{◌≡◌, ℕ, true, false, List, [], length, Some, None, Ok, Err, Option, Result, IsSome, IfSome, MatchOption}
 use Rattle.std.specs.Option.{option_map}
-use Rattle.console.specs.Counters.{counted_in, with_line, with_refusal}
+use Rattle.console.specs.Counters.{none, counted_in, with_line, with_refusal}
 use Rattle.console.specs.Heard.{heard, after, Replied, Journaled}
-use Rattle.console.specs.States.{state_of}
+use Rattle.console.specs.States.{first, state_of}
 use Rattle.console.specs.declared.answers.Answer.{Answer}
 use Rattle.console.specs.declared.consoles.Console.{Console}
 use Rattle.console.specs.declared.refusals.Refused.{Refused}
+use Rattle.console.specs.declared.summaries.Summary.{Summary}
 use Rattle.console_journal.specs.Obeying.{held, kept_bytes, areas_in, Loads}
+use Rattle.console_tips.specs.Boards.{sitting}
+use Rattle.tips.specs.Ranks.{Safe}
+use Rattle.tips.specs.Seats.{tips_of}
 use Rattle.journal_commands.specs.Files.{Named, file_line}
 use Rattle.journal_commands.specs.declared.faults.Fault.{Fault}
 use Rattle.std.specs.Io.KnownBytes.{Appends}
@@ -17,6 +21,18 @@ use Rattle.session.specs.Replies.{reply_text}
 use Rattle.session.specs.declared.replies.Reply.{Reply}
 use Rattle.session.specs.declared.replies.Reply.TheVariants.{Console as OfConsole, Opened, Words, NoText, NotOpened, NoJournal, NotKept}
 use Rattle.session.specs.declared.sessions.Session.{Session}
+
+-- a session that has seen nothing
+pub record IsFresh (s : Session) : Type 0 where
+  pub console : state_of s.console.parts ≡ first
+  pub journal : held s.console.parts.journals ≡ None
+  pub counts : s.console.counts ≡ none
+  pub file : s.file ≡ None
+
+-- what a session has seen so far
+pub record Sums (s : Session) (m : Summary) : Type 0 where
+  pub counts : m.counts ≡ s.console.counts
+  pub tip : MatchOption m.safe_tip (sitting s.console.parts.board ≡ []) (λ t. Safe (tips_of (sitting s.console.parts.board)) t.0)
 
 -- what the file of a session holds, if its journal is kept in one
 abbrev pub file_bytes : Session → Option (List ℕ)

@@ -1,6 +1,6 @@
 //! The lines of a reader, answered one after the other.
 ghost use Rattle.std.specs.Prelude.{IfSome, OnOk};
-ghost use Rattle.session.specs.Playing.{IsFresh, Turns, Closes, PlaysAll};
+ghost use Rattle.session.specs.Playing.{Turns, Closes, PlaysAll};
 
 use crate::Session;
 use std::io::{BufRead, Write};

@@ -49,21 +49,13 @@ fn open_file(
 }
 
 impl Session {
-    ghost use Rattle.console.specs.Counters.{none};
-    ghost use Rattle.console_tips.specs.Boards.{sitting};
-    ghost use Rattle.tips.specs.Ranks.{Safe};
-    ghost use Rattle.tips.specs.Seats.{tips_of};
-    ghost use Rattle.console.specs.States.{first, state_of};
     ghost use Rattle.journal_commands.specs.Files.{named, file_line};
     ghost use Rattle.text.specs.Words.{words};
-    ghost use Rattle.session.specs.Sessions.{IsInStep, ByFile, Does, Answers};
+    ghost use Rattle.session.specs.Sessions.{IsInStep, ByFile, Does, Answers, IsFresh, Sums};
 
     /// A session that has seen nothing.
     pub fn new(heap: Global) -> Self
-        ensures console { state_of result.console.parts ≡ first }
-        ensures journal { held result.console.parts.journals ≡ None }
-        ensures counts { result.console.counts ≡ none }
-        ensures file { result.file ≡ None }
+        ensures { IsFresh result }
     {
         Self {
             console: Console::new(heap),
@@ -73,8 +65,7 @@ impl Session {
 
     /// What the console has seen so far.
     pub fn summary(&self) -> Summary
-        ensures counts { result.counts ≡ self.now.console.counts }
-        ensures tip { MatchOption result.safe_tip (sitting self.now.console.parts.board ≡ []) (λ t. Safe (tips_of (sitting self.now.console.parts.board)) t.0) }
+        ensures { Sums self.now result }
     {
         self.console.summary()
     }

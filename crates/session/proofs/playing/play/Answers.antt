@@ -13,5 +13,5 @@ pub returns : goal.returns
 returns g c =
     on_ok c.end.result _ _
     (λ closes. played c.args.parted (split_byte c.loop-line.line-iterator) _ _ _ (split_known_bytes g.R.Read.remaining c.loop-line.line-iterator) c.loop-line.session (g.W.Write.contents c.loop-line.out) _
-    c.loop-line.invariant (search rules) (record { console = c.new-session.ensures.console; journal = c.new-session.ensures.journal; counts = c.new-session.ensures.counts; file = c.new-session.ensures.file }) closes)
+    c.loop-line.invariant (search rules) c.new-session.ensures closes)
     c.end.ensures
