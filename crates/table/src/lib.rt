@@ -2,7 +2,7 @@
 #![tactic(auto)]
 
 ghost use Rattle.std.specs.Prelude.{◌≡◌, Bool};
-ghost use Rattle.table.specs.Order.{Ordered};
+ghost use Rattle.table.specs.Order.{Total, Ordered};
 
 mod keys;
 mod lookups;
@@ -14,20 +14,20 @@ pub use lookups::{first, last, lookup, position};
 pub use tables::Table;
 pub use updates::{insert, remove};
 
-/// A type of keys with a total order, which is its `<`.
-pub trait Key: Copy + Ord {
+/// A type of keys with a total order.
+pub trait Key: Copy {
     ghost less: { Self → Self → Bool };
 
-    // kept: a public function beside the derived `<`, whose clause is the order of the rules, as proofs cite it
     /// Whether this key comes before `other`.
-    final fn before(&self, other: &Self) -> bool
-        ensures { result ≡ less self.now other.now }
-    {
-        self < other
-    }
+    fn before(&self, other: &Self) -> bool
+        ensures { result ≡ less self.now other.now };
 
-    // What each type owes: the order is total, and `<` is this order.
-    ghost ordered: { Ordered Self.partial_cmp less };
+    ghost order: { Total less };
+}
+
+/// A type of keys whose `<` is their order as keys.
+pub trait OrderedKey: Key + Ord {
+    ghost ordered: { Ordered Self.partial_cmp Self.less };
 }
 
 /// A key with its value.

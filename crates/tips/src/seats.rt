@@ -1,12 +1,27 @@
 //! The seats that the caller lends: each signer's key with its recorded tip.
 ghost use Rattle.std.specs.Prelude.{◌≡◌, ◌≤◌, map, length, take};
+ghost use Rattle.table.specs.Order.{level};
 ghost use Rattle.types.specs.Numbers.{Height};
-ghost use Rattle.tips.specs.Seats.{carried, seated, reseated};
+ghost use Rattle.tips.specs.Seats.{among, carried, seated, reseated};
 
 use crate::MAX_SIGNERS;
 use arrayvec::ArrayVec;
 use table::{Entry, Key};
 use types::Height;
+
+/// Whether the two keys are one.
+fn same<K: Key>(x: &K, y: &K) -> bool
+    ensures { result ≡ level K.less x.now y.now }
+{
+    !x.before(y) && !y.before(x)
+}
+
+/// Whether `key` is one of the `keys`.
+pub(crate) fn is_among<K: Key>(keys: &[K], key: &K) -> bool
+    ensures { result ≡ among K.less key.now keys.now }
+{
+    keys.iter().any(|other| same(other, key))
+}
 
 /// The tip that `key` brings to a new set: its own, or 0 where it has no seat.
 fn carry<K: Key>(seats: &[Entry<K, Height>], key: &K) -> Height

@@ -4,6 +4,7 @@ ghost use Rattle.tips.specs.Seats.{tip_of, settled};
 ghost use Rattle.tips.specs.Tips.{counts as has, Moved, Recorded};
 
 use super::SafeTip;
+use crate::seats::is_among;
 use table::{Entry, Key};
 use types::Height;
 
@@ -46,7 +47,10 @@ impl SafeTip {
     fn settle<K: Key>(&mut self, seat: &Entry<K, Height>, keys: &[K])
         ensures { has self.old seat.now.value ≡ true → Moved seat.now.value (settled K.less keys.now seat.now) self.old self.new }
     {
-        if !keys.contains(&seat.key) && self.counts(seat.value) {
+        if seat.value.is_zero() {
+            return;
+        }
+        if !is_among(keys, &seat.key) && self.counts(seat.value) {
             self.shift(seat.value, Height::zero());
         }
     }

@@ -9,7 +9,7 @@ use Rattle.table.proofs.updates.insert.Goals.{else-i-n-via-then-i-n+else-not-bef
 
 pub returns-then-not-before : goal.returns-then-not-before
 returns-then-not-before g c =
-    let o = g.met.K.Key.ordered.order in
+    let o = g.met.K.Key.order in
     let es = c.args.entries.now in
     let n = c.min-n.result in
     let i = c.rank_of-i.result in
@@ -28,7 +28,7 @@ returns-then-not-before g c =
 
 pub returns-then-n-entries : goal.returns-then-n-entries
 returns-then-n-entries g c =
-    let o = g.met.K.Key.ordered.order in
+    let o = g.met.K.Key.order in
     let es = c.args.entries.now in
     let n = c.min-n.result in
     let fits : n ≤ length es = omega arith in
@@ -45,7 +45,7 @@ returns-then-n-entries g c =
 
 pub returns : goal.returns
 returns g c =
-    let o = g.met.K.Key.ordered.order in
+    let o = g.met.K.Key.order in
     let es = c.args.entries.now in
     let n = c.min-n.result in
     let i = c.rank_of-i.result in

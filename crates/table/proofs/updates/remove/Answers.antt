@@ -7,7 +7,7 @@ use Rattle.table.proofs.updates.remove.Goals as goal
 
 pub returns : goal.returns
 returns g c =
-    let o = g.met.K.Key.ordered.order in
+    let o = g.met.K.Key.order in
     let k = c.args.key.now in
     let es = c.args.entries.now in
     let n = c.min-n.result in
@@ -21,7 +21,7 @@ returns g c =
 
 pub returns-in_err-i : goal.returns-in_err-i
 returns-in_err-i g c =
-    let o = g.met.K.Key.ordered.order in
+    let o = g.met.K.Key.order in
     let k = c.args.key.now in
     let es = c.args.entries.now in
     let n = c.min-n.result in

@@ -18,6 +18,6 @@ returns g c =
       answer = passes (length seats) (length keys) few sized;
       seats = is;
       kept = tt;
-      holds = λ so up h. subst (λ l. Holds l c.lower_leavers.new.self) (sym is) (reconciled g.met.K.Key.ordered.order keys seats c.lower_leavers.new.self up so sized (c.lower_leavers.ensures (recorded seats c.args.self.now h)));
+      holds = λ so up h. subst (λ l. Holds l c.lower_leavers.new.self) (sym is) (reconciled g.met.K.Key.order keys seats c.lower_leavers.new.self up so sized (c.lower_leavers.ensures (recorded seats c.args.self.now h)));
       sorted = λ _ up. subst (Sorted g.K.Key.less) (sym is) (sorted_seated g.K.Key.less (carried g.K.Key.less seats) keys up);
     }
