@@ -2,7 +2,7 @@
 ghost use Rattle.std.specs.Prelude.{◌≡◌, ◌+◌, ◌^◌, ◌<◌, ◌&&◌, nat_le, nat_lt};
 ghost use Rattle.bitmaps.specs.Attested.{signers_in};
 ghost use Rattle.bitmaps.specs.Maps.{map_for};
-ghost use Rattle.bitmaps.specs.Parts.{appended};
+ghost use Rattle.bitmaps.specs.Parts.{placed_at, appended};
 ghost use Rattle.provider.specs.Values.{certified};
 
 use provider::{Attestation, Certificate};
@@ -42,13 +42,23 @@ pub fn bitmap(n: usize, attestations: &[Attestation]) -> Option<u16>
     Some(map)
 }
 
+/// Writes a part of a certificate at its place; nothing where there is no room for it.
+pub fn place(bytes: &mut [u8], at: usize, part: &[u8])
+    ensures { bytes.new ≡ placed_at at part.now bytes.old }
+{
+    if at <= bytes.len() && part.len() <= bytes.len() - at {
+        bytes[at..at + part.len()].copy_from_slice(part);
+    }
+}
+
 /// Writes a part behind what the certificate holds; nothing where there is no room for it.
 pub fn append(certificate: &mut Certificate, part: &[u8])
-    ensures { certified certificate.new ≡ appended part.now (certified certificate.old) }
+    ensures held { certified certificate.new ≡ appended part.now (certified certificate.old) }
+    ensures bytes { certificate.new.bytes ≡ placed_at certificate.old.len part.now certificate.old.bytes }
 {
     let len = certificate.len;
     if part.len() <= 1026 - len {
-        certificate.bytes[len..len + part.len()].copy_from_slice(part);
+        place(&mut certificate.bytes, len, part);
         certificate.len = len + part.len();
     }
 }

@@ -8,7 +8,7 @@ mod rejection;
 mod signer_list;
 mod splits;
 
-pub use joins::{append, bitmap};
+pub use joins::{append, bitmap, place};
 pub use rejection::Rejection;
 pub use signer_list::Signers;
 pub use splits::{all_below, signers};

@@ -14,7 +14,7 @@ loop-attestation-preserved c =
     let map_bytes = certified c.args.certificate.now in
     let so_far = c.loop-attestation.invariant in
     let sized = q.signature.sized in
-    let written = c.append.ensures ∙ appended-room q.signature.bytes before (omega (arith, so_far.1, c.requires.few)) in (
+    let written = c.append.ensures.held ∙ appended-room q.signature.bytes before (omega (arith, so_far.1, c.requires.few)) in (
       written
           ∙ ap (λ (front : List ℕ). front ++ q.signature.bytes) so_far.0
           ∙ append_assoc map_bytes (signatures (map attested (take i qs))) q.signature.bytes

@@ -8,7 +8,7 @@ pub returns : goal.returns
 unfolding eight_bytes
 returns c =
     let before = certified c.args.certificate.now in
-    c.append.ensures
+    c.append.ensures.held
     ∙ appended-room c.to_be_bytes.result before (omega (arith, c.requires.room, ap length c.to_be_bytes.ensures))
     ∙ ap (λ (part : List ℕ). before ++ part) c.to_be_bytes.ensures
     ∙ ap (λ (sum : ℕ). before ++ eight_bytes sum) c.carried.ensures
