@@ -4,7 +4,7 @@ ghost use Rattle.trial.specs.Faults.{sound as faultless};
 
 use crate::EpochSet;
 
-/// The epochs of a trial, in ascending order; `EpochList { sets: &[] }` has none, and `lend` takes others.
+/// The epochs of a trial, in ascending order.
 #[derive(Clone, Copy)]
 pub struct EpochList<'a> {
     /// The signers of each epoch.

@@ -1,5 +1,5 @@
 //! What a list of epochs answers of keys, own signers and signatures.
-ghost use Rattle.std.specs.Prelude.{◌≡◌, ◌<◌, IfSome};
+ghost use Rattle.std.specs.Prelude.{◌≡◌, ◌<◌, [], IfSome};
 ghost use Rattle.provider.specs.Laws.{position_in};
 ghost use Rattle.provider.specs.Values.{lent_keys, number, signed};
 ghost use Rattle.trial.specs.Fits.{Fit};
@@ -12,6 +12,13 @@ use crate::{EpochList, EpochSet, ListFault};
 use types::{Epoch, Item, Participant, PublicKey, Signature};
 
 impl<'a> EpochList<'a> {
+    /// A list of no epochs.
+    pub fn new() -> Self
+        ensures { result.sets.now ≡ [] }
+    {
+        EpochList { sets: &[] }
+    }
+
     /// Takes a list of epochs in place of the one held; a list with a fault is refused, and nothing changes.
     pub fn lend(&mut self, sets: &'a [EpochSet<'a>]) -> Result<(), ListFault>
         ensures { Lent self.old.sets.now sets.now result self.new.sets.now }
