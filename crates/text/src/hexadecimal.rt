@@ -1,5 +1,5 @@
 //! Bytes spelled in hex: two digits a byte, and `-` for no bytes.
-ghost use Rattle.std.specs.Prelude.{◌≡◌, IfOk, Some, length, vec_items, [], ◌∷◌};
+ghost use Rattle.std.specs.Prelude.{◌≡◌, IfOk, Ok, Some, None, length, vec_items, [], ◌∷◌};
 ghost use Rattle.std.specs.Option.{option_map};
 ghost use Rattle.std.specs.List.{list_all};
 ghost use Rattle.std.specs.Str.{bytes_eq};
@@ -17,12 +17,17 @@ fn is_dash(word: &[u8]) -> bool
     word == b"-".as_slice()
 }
 
-/// The bytes that the word spells: `-` for none, or two digits a byte, in either case; `None` where it spells none.
+/// The bytes that the word spells: `-` for none, or two digits a byte, in either case; `None` where it spells none, and
+/// no memory is asked for then.
 pub fn read_hex(heap: Global, word: &[u8]) -> Result<Option<Vec<u8>>, AllocError>
-    ensures { IfOk result (λ o. option_map vec_items o ≡ bytes_of word.now) }
+    ensures value { IfOk result (λ o. option_map vec_items o ≡ bytes_of word.now) }
+    ensures wrong { bytes_of word.now ≡ None → result ≡ Ok None }
 {
     if is_dash(word) {
         return Ok(Some(Vec::new(heap)));
+    }
+    if hex_len(word).is_none() {
+        return Ok(None);
     }
     let mut bytes = vec![in heap; 0u8; word.len() / 2]?;
     let decoded = hex::decode_to_slice(word, bytes.as_mut_slice());
