@@ -1,5 +1,5 @@
 -- What a check of a list says of an answer.
-use Rattle.std.proofs.Common.{◌≡◌, true, not, is_some, Option, Some, None, Ok, Err, Result, refl, arith}
+use Rattle.std.proofs.Common.{◌≡◌, true, not, is_some, Option, Some, None, Ok, Err, Result, refl, subst, arith}
 use Rattle.std.proofs.lemmas.Bool.{false≢true}
 use Rattle.std.specs.Result.{IsErrAnd}
 use Rattle.fields.specs.Results.{result_map, OrNoMemory}
@@ -44,3 +44,7 @@ not_added s (Err x) e (Some f) refused h = λ known. let m = h (rw (← refused)
 pub certain : (r m : Result Told Refusal) → r ≡ m → OrNoMemory out_of_memory r m
 certain (Ok t) m h = h
 certain (Err e) m h = λ known. h
+
+-- what is meant may be named otherwise
+pub meant : (r : Result Answer Refusal) (m n : Result Told Refusal) → OrNoMemory out_of_memory (result_map told r) m → m ≡ n → OrNoMemory out_of_memory (result_map told r) n
+meant r m n h same = subst (λ (x : Result Told Refusal). OrNoMemory out_of_memory (result_map told r) x) same h

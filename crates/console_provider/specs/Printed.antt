@@ -2,7 +2,6 @@
 use Rattle.std.specs.Prelude.{ℕ, List, ◌++◌, codes, decimal, Some, None, Option}
 use Rattle.bitmaps.specs.declared.rejection.Rejection.{Rejection}
 use Rattle.bitmaps.specs.declared.rejection.Rejection.TheVariants as against
-use Rattle.provider.specs.Values.{certified}
 use Rattle.provider_commands.specs.Printed.{fault_text}
 use Rattle.provider_commands.specs.declared.commands.Kind.TheVariants.{Listed, Pooled}
 use Rattle.text.specs.Hex.{hex_of}
@@ -50,5 +49,5 @@ answer_line (Known e n f q own) =
 answer_line (Signed s) = codes "signature " ++ hex_of s.bytes
 answer_line Accepted = codes "accepted"
 answer_line Rejected = codes "rejected"
-answer_line (Assembled c) = codes "certificate " ++ hex_of (certified c)
+answer_line (Assembled c) = codes "certificate " ++ hex_of c.items
 answer_line (Against r) = codes "rejected: " ++ reason_text r

@@ -2,7 +2,7 @@
 use Rattle.std.specs.Prelude.{ℕ, Option}
 use Rattle.bitmaps.specs.declared.rejection.Rejection.{Rejection}
 use Rattle.provider.specs.Answers.{Bytes}
-use Rattle.provider.specs.Values.{number, certified}
+use Rattle.provider.specs.Values.{number}
 use Rattle.provider_commands.specs.declared.commands.Kind.{Kind}
 use Rattle.console_provider.specs.declared.answers.Answer.{Answer}
 use Rattle.console_provider.specs.declared.answers.Answer.TheVariants.{Chosen, Known, Signed, Accepted, Rejected, Assembled, Against}
@@ -29,5 +29,5 @@ told (Known e n f q own) = known e.0 n f q (number own)
 told (Signed s) = signed s.bytes
 told Accepted = accepted
 told Rejected = rejected
-told (Assembled c) = assembled (certified c)
+told (Assembled c) = assembled c.items
 told (Against r) = against r

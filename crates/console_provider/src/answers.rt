@@ -2,7 +2,6 @@
 ghost use Rattle.std.specs.Prelude.{◌≡◌};
 
 use bitmaps::Rejection;
-use provider::Certificate;
 use provider_commands::{Fault, Kind};
 use std::alloc::{AllocError, AllocFailed};
 use trial::ListFault;
@@ -24,7 +23,7 @@ pub enum Refusal {
 }
 
 /// What a command did.
-#[derive(Clone, Copy, Debug)]
+#[derive(Drop)]
 pub enum Answer {
     /// This provider answers from now on, of no epochs yet.
     Chosen(Kind),
@@ -47,8 +46,8 @@ pub enum Answer {
     Accepted,
     /// The signature is not accepted.
     Rejected,
-    /// The certificate that the signatures make.
-    Assembled(Certificate),
+    /// The bytes of the certificate that the signatures make.
+    Assembled(Vec<u8>),
     /// The certificate is not accepted, for this reason.
     Against(Rejection),
 }

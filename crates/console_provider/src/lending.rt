@@ -52,7 +52,7 @@ pub(crate) fn list<'a>(sets: &'a [EpochSet<'a>]) -> EpochList<'a>
     requires { list_fault sets.now ≡ None }
     ensures { result.sets.now ≡ sets.now }
 {
-    let mut epochs = EpochList { sets: &[] };
+    let mut epochs = EpochList::new();
     let _ = epochs.lend(sets);
     epochs
 }

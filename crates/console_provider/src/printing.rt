@@ -105,8 +105,8 @@ impl fmt::Display for Answer {
             }
             Self::Accepted => f.write_str("accepted"),
             Self::Rejected => f.write_str("rejected"),
-            Self::Assembled(certificate) => {
-                let hex = Hex(certificate.as_bytes());
+            Self::Assembled(ref certificate) => {
+                let hex = Hex(certificate);
                 write!(f, "certificate {hex}")
             }
             Self::Against(rejection) => {

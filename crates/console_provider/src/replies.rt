@@ -1,14 +1,15 @@
 //! What a provider replies to a question.
 ghost use Rattle.std.specs.Prelude.{◌≡◌};
-ghost use Rattle.fields.specs.Results.{result_map};
+ghost use Rattle.fields.specs.Results.{result_map, OrNoMemory};
 ghost use Rattle.provider_commands.specs.Reading.{query};
-ghost use Rattle.console_provider.specs.Doing.{replied, reply as replies};
+ghost use Rattle.console_provider.specs.Doing.{out_of_memory, replied, reply as replies};
 ghost use Rattle.console_provider.specs.Told.{told};
 
 use crate::{Answer, Refusal};
 use mapped::{Body, MappedProvider};
 use provider::Provider;
 use provider_commands::Question;
+use std::alloc::Global;
 use types::{Digest, Epoch, Height, Item};
 
 /// The item of a height and its digest.
@@ -24,11 +25,12 @@ fn item(height: Height, digest: &Digest) -> Item<'_>
 
 /// What the provider replies to a question about an epoch that it knows.
 fn answer<B: Body>(
+    heap: Global,
     provider: &MappedProvider<'_, B>,
     epoch: Epoch,
     question: &Question,
 ) -> Result<Answer, Refusal>
-    ensures { result_map told result ≡ replied B.meaning provider.now.epochs.sets.now epoch.0 (query question.now) }
+    ensures { OrNoMemory out_of_memory (result_map told result) (replied B.meaning provider.now.epochs.sets.now epoch.0 (query question.now)) }
 {
     match question {
         Question::Sign { height, digest } => {
@@ -53,7 +55,7 @@ fn answer<B: Body>(
             let certificate = provider
                 .assemble(epoch, attestations)
                 .ok_or(Refusal::AssemblyFailed)?;
-            Ok(Answer::Assembled(certificate))
+            Ok(Answer::Assembled(certificate.as_bytes().to_vec(heap)?))
         }
         Question::AcceptsCertificate {
             height,
@@ -70,14 +72,15 @@ fn answer<B: Body>(
 
 /// What the provider replies to a question.
 pub(crate) fn reply<B: Body>(
+    heap: Global,
     provider: &MappedProvider<'_, B>,
     epoch: Epoch,
     question: &Question,
 ) -> Result<Answer, Refusal>
-    ensures { result_map told result ≡ replies B.meaning provider.now.epochs.sets.now epoch.0 (query question.now) }
+    ensures { OrNoMemory out_of_memory (result_map told result) (replies B.meaning provider.now.epochs.sets.now epoch.0 (query question.now)) }
 {
     if provider.keys(epoch).is_none() {
         return Err(Refusal::UnknownEpoch(epoch));
     }
-    answer(provider, epoch, question)
+    answer(heap, provider, epoch, question)
 }

@@ -65,8 +65,8 @@ impl Trial {
         let sets = lend_all(heap, &self.sets)?;
         let epochs = list(&sets);
         match self.kind {
-            Kind::Listed => reply(&ListedProvider::new(epochs), epoch, question),
-            Kind::Pooled => reply(&PooledProvider::new(epochs), epoch, question),
+            Kind::Listed => reply(heap, &ListedProvider::new(epochs), epoch, question),
+            Kind::Pooled => reply(heap, &PooledProvider::new(epochs), epoch, question),
         }
     }
 
@@ -96,10 +96,10 @@ impl Trial {
         ensures trial { held self.new ≡ after (command name.now (words args.now)) result (held self.old) }
         ensures answer { Taken (command name.now (words args.now)) (held self.old) result }
     {
-        let command = read(heap, name, args)?;
-        Some(match command {
-            Ok(command) => self.obey(heap, command),
-            Err(fault) => Err(Refusal::Words(fault)),
-        })
+        let command = match read(heap, name, args)? {
+            Ok(command) => command,
+            Err(fault) => return Some(Err(Refusal::Words(fault))),
+        };
+        Some(self.obey(heap, command))
     }
 }

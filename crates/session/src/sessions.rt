@@ -108,6 +108,9 @@ impl Session {
             None => {}
         }
         let reply = self.console.take(line);
+        if self.file.is_none() {
+            return Reply::Console(reply);
+        }
         match keep(rt, self.file.take(), self.console.kept_bytes()) {
             Ok(file) => {
                 self.file = file;
@@ -132,6 +135,9 @@ impl Session {
         ensures in_step { IsInStep self.old → IsInStep self.new }
     {
         let reply = self.take(rt, line);
+        if let Reply::Console(Ok(None)) = &reply {
+            return Ok(());
+        }
         write!(out, "{reply}")?;
         out.flush()?;
         Ok(())

@@ -1,3 +1,2 @@
 pub mod Ordered
 pub mod Placing
-pub mod Tallies

@@ -1,7 +1,6 @@
 //! What a line says: a set of signers, a tip, or neither.
-ghost use Rattle.std.specs.Prelude.{◌≡◌, ◌<◌, ◌≤◌, [], length, is_none, IfOk, IfSome, position};
+ghost use Rattle.std.specs.Prelude.{◌≡◌, ◌≤◌, [], length, IfOk};
 ghost use Rattle.std.specs.Option.{option_map};
-ghost use Rattle.text.specs.Decimal.{number_of};
 ghost use Rattle.text.specs.Words.{words};
 ghost use Rattle.tip_commands.specs.Reading.{tally, enrol as enrolled, set_of, said, said_tip, command};
 ghost use Rattle.tip_commands.specs.Sets.{seats_read};
@@ -10,23 +9,20 @@ use crate::{Command, Fault, KeySet, MAX_KEYS, MIN_KEYS};
 use text::{Words, count_words, number};
 use types::{Height, Participant};
 
-/// The place of the first word that is no number, if there is one.
-fn first_wrong(args: &[u8]) -> Option<usize>
-    ensures value { result ≡ position (λ word. is_none (number_of word)) (words args.now) }
-    ensures within { IfSome result (λ place. place < length args.now) }
-{
-    Words::new(args).position(|word| number(word).is_none())
-}
-
 /// How many numbers the words are; every word has to be one.
 fn count_numbers(args: &[u8]) -> Result<usize, Fault>
     ensures value { result ≡ tally 0 (words args.now) }
     ensures all { IfOk result (λ count. count ≡ length (words args.now)) }
 {
-    match first_wrong(args) {
-        Some(place) => Err(Fault::NoNumber(place + 1)),
-        None => Ok(count_words(args)),
+    // kept: counted by hand, so that one walk over the words tells how many they are and the first that is no number
+    let mut count = 0;
+    for word in Words::new(args) {
+        count += 1;
+        if number(word).is_none() {
+            return Err(Fault::NoNumber(count));
+        }
     }
+    Ok(count)
 }
 
 /// The set of the keys that the words are.

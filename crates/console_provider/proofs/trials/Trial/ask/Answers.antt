@@ -6,7 +6,7 @@ use Rattle.provider_commands.specs.declared.commands.Kind.TheVariants.{Listed, P
 use Rattle.trial.specs.declared.epoch_set.EpochSet.{EpochSet}
 use Rattle.trial.specs.Faults.{list_fault}
 use Rattle.console_provider.proofs.Alike.{lent_shown, same_list_fault, same_reply}
-use Rattle.console_provider.proofs.Passing.{certain, faultless}
+use Rattle.console_provider.proofs.Passing.{meant, faultless}
 use Rattle.console_provider.specs.Doing.{body_of, reply}
 use Rattle.console_provider.specs.Lending.{lent}
 use Rattle.console_provider.proofs.trials.Trial.ask.Goals as goal
@@ -26,15 +26,15 @@ list-epochs-requires c =
 pub returns-in-Listed : goal.returns-in-Listed
 returns-in-Listed c = λ ss about.
     let ask = λ (k : Kind) (ts : List EpochSet). reply (body_of k) ts c.args.epoch.0 (query c.args.question.now) in
-    certain _ _
-    (c.reply.ensures ∙ ap (ask Listed) (c.new.ensures ∙ c.list-epochs.ensures ∙ c.deref-2.ensures.value)
+    meant c.reply.result _ _ c.reply.ensures
+    (ap (ask Listed) (c.new.ensures ∙ c.list-epochs.ensures ∙ c.deref-2.ensures.value)
     ∙ same_reply Listed c.in_ok-sets.sets.items ss c.args.epoch.0 (query c.args.question.now) (same (goal.at.returns-in-Listed c).In_ok-sets ∙ sym about)
     ∙ ap (λ (k : Kind). ask k ss) (sym c.in-Listed.is))
 
 pub returns : goal.returns
 returns c = λ ss about.
     let ask = λ (k : Kind) (ts : List EpochSet). reply (body_of k) ts c.args.epoch.0 (query c.args.question.now) in
-    certain _ _
-    (c.reply-in-Pooled.ensures ∙ ap (ask Pooled) (c.new-in-Pooled.ensures ∙ c.list-epochs.ensures ∙ c.deref-2.ensures.value)
+    meant c.reply-in-Pooled.result _ _ c.reply-in-Pooled.ensures
+    (ap (ask Pooled) (c.new-in-Pooled.ensures ∙ c.list-epochs.ensures ∙ c.deref-2.ensures.value)
     ∙ same_reply Pooled c.in_ok-sets.sets.items ss c.args.epoch.0 (query c.args.question.now) (same (goal.at.returns c).In_ok-sets ∙ sym about)
     ∙ ap (λ (k : Kind). ask k ss) (sym c.in-Pooled.is))
