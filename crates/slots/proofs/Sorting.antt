@@ -1,11 +1,11 @@
 -- Records in reading order: what is added, kept and found there. Assumes nothing.
 use Rattle.std.proofs.Common.{◌≡◌, ℕ, suc, ◌+◌, ◌<◌, ◌≤◌, true, false, cond, eqb, List, [], ◌∷◌, ◌++◌, Some, None, Option, sym, refl, ap, ◌∙◌, subst, inl, inr, append_assoc, append-nil, add-one, map, fold, arith}
-use Rattle.std.specs.List.{filter, filter_map, cons_option, enumerate_from, reduce}
+use Rattle.std.specs.List.{filter_map, cons_option, enumerate_from}
 use Rattle.std.proofs.lemmas.Bool.{cond-true, cond-false, cond_both, cases_Bool}
 use Rattle.journal.specs.Log.{All}
 use Rattle.slots.specs.declared.slot.Slot.{Slot}
 use Rattle.slots.specs.declared.slot.Key.{Key}
-use Rattle.slots.specs.Order.{Cell, key, key_of, slot_key, keys, before, cells, inserted, ordered, order, after, first_key}
+use Rattle.slots.specs.Order.{Cell, key, key_of, slot_key, keys, before, cells, inserted, ordered, order, after, first_key, nearer, near, near_slot}
 use Rattle.slots.proofs.Keys.{before-trans, before_asym, before_self, before-total}
 
 pub all_map : {X : Type 0} (P Q : X → Type 0) → ((x : X) → P x → Q x) → (xs : List X) → All P xs → All Q xs
@@ -114,15 +114,6 @@ unfolding ordered All
 ordered_middle [] c q a = refl
 ordered_middle (y ∷ p) c q (n, a) = ap (inserted y) (ordered_middle p c q a) ∙ commute y c (λ e. n (sym e)) (ordered (p ++ q))
 
--- the nearer of two keys: the one that is read first
-abbrev nearer : Option Key → Key → Option Key
-nearer None k = Some k
-nearer (Some b) k = cond (before k b) (Some k) (Some b)
-
--- the nearest key after `from` so far, with one more
-abbrev near : Key → Option Key → Key → Option Key
-near from best k = cond (before from k) (nearer best k) best
-
 -- what comes after a key, with one record more
 after-inserted : (k : Key) (c : Cell) (l : List Cell) → first_key (after k (inserted c l)) ≡ near k (first_key (after k l)) (key c)
 unfolding inserted after first_key
@@ -186,31 +177,21 @@ nearest-from k i best (x ∷ xs) C a e =
           ∙ ap (λ l. first_key (after k (ordered (C ++ l)))) (sym (cond-false _ (cells (suc i) xs) (c ∷ cells (suc i) xs) p))
     ]
 
-module _ (f : Key → Key → Key) (least : (x y : Key) → f x y ≡ cond (before y x) y x) (k : Key) where
-  least-some : (b : Key) (l : List Key) → Some (fold f b (filter (before k) l)) ≡ fold (near k) (Some b) l
-  least-some b [] = refl
-  least-some b (o ∷ l) =
-      elim (cases_Bool (before k o)) [
-        | inl p ↦
-            let step : near k (Some b) o ≡ Some (f b o) = cond-true _ _ _ p ∙ cond_both (before o b) o b (λ z. cond (before o b) (Some o) (Some b) ≡ Some z) (λ q. cond-true _ _ _ q) (λ q. cond-false _ _ _ q) ∙ ap Some (sym (least b o)) in
-            ap (λ m. Some (fold f b m)) (cond-true _ _ _ p) ∙ least-some (f b o) l ∙ ap (λ z. fold (near k) z l) (sym step)
-        | inr p ↦ ap (λ m. Some (fold f b m)) (cond-false _ _ _ p) ∙ least-some b l ∙ ap (λ z. fold (near k) z l) (sym (cond-false _ _ _ p))
-      ]
+-- slots that are gone through, and their keys
+near-cells : (k : Key) (i : ℕ) (best : Option Key) (xs : List Slot) → fold (λ b p. near_slot k b p.0 p.1) best (enumerate_from i xs) ≡ fold (near k) best (map key (cells i xs))
+unfolding cells
+near-cells k i best [] = refl
+near-cells k i best (x ∷ xs) =
+    let rest : (b : Option Key) → fold (λ b p. near_slot k b p.0 p.1) b (enumerate_from (i + 1) xs) ≡ fold (near k) b (map key (cells (suc i) xs)) = λ b. near-cells k (i + 1) b xs ∙ ap (λ j. fold (near k) b (map key (cells j xs))) (add-one i) in
+    elim (cases_Bool (eqb x.age 0)) [
+      | inl p ↦ ap (λ b. fold (λ b p. near_slot k b p.0 p.1) b (enumerate_from (i + 1) xs)) (cond-true _ _ _ p) ∙ rest best ∙ ap (λ l. fold (near k) best (map key l)) (sym (cond-true _ _ _ p))
+      | inr p ↦ ap (λ b. fold (λ b p. near_slot k b p.0 p.1) b (enumerate_from (i + 1) xs)) (cond-false _ _ _ p) ∙ rest (near k best (key_of i x)) ∙ ap (λ l. fold (near k) best (map key l)) (sym (cond-false _ _ _ p))
+    ]
 
-  least-none : (l : List Key) → reduce f (filter (before k) l) ≡ fold (near k) None l
-  least-none [] = refl
-  least-none (o ∷ l) =
-      elim (cases_Bool (before k o)) [
-        | inl p ↦ ap (reduce f) (cond-true _ _ _ p) ∙ least-some o l ∙ ap (λ z. fold (near k) z l) (sym (cond-true _ _ _ p))
-        | inr p ↦ ap (reduce f) (cond-false _ _ _ p) ∙ least-none l ∙ ap (λ z. fold (near k) z l) (sym (cond-false _ _ _ p))
-      ]
-
-  -- the least of the keys after k is that of the record that is read next
-  pub least_is : (xs : List Slot) → reduce f (filter (before k) (keys xs)) ≡ first_key (after k (order xs))
-  unfolding order
-  least_is xs =
-      least-none (keys xs) ∙ ap (fold (near k) None) (keys_are xs)
-      ∙ nearest-from k 0 None xs [] (unfold All in tt) (unfold ordered after first_key in refl)
+-- the nearest of the slots after k is that of the record that is read next
+pub nearest_is : (k : Key) (xs : List Slot) → fold (λ b p. near_slot k b p.0 p.1) None (enumerate_from 0 xs) ≡ first_key (after k (order xs))
+unfolding order
+nearest_is k xs = near-cells k 0 None xs ∙ nearest-from k 0 None xs [] (unfold All in tt) (unfold ordered after first_key in refl)
 
 pub all_after : (P : Cell → Type 0) (k : Key) (l : List Cell) → All P l → All P (after k l)
 unfolding All after

@@ -68,6 +68,19 @@ unfoldable pub first_key : List Cell → Option Key
 first_key [] = None
 first_key (c ∷ cs) = Some (key c)
 
+-- the nearer of two keys: the one that is read first
+abbrev pub nearer : Option Key → Key → Option Key
+nearer None k = Some k
+nearer (Some b) k = cond (before k b) (Some k) (Some b)
+
+-- the nearest key after `from` so far, with one more
+abbrev pub near : Key → Option Key → Key → Option Key
+near from best k = cond (before from k) (nearer best k) best
+
+-- the same of one more slot: a free one has no key
+abbrev pub near_slot : Key → Option Key → ℕ → Slot → Option Key
+near_slot from best i x = cond (is_free x) best (near from best (key_of i x))
+
 -- the first free slot
 abbrev pub vacant : List Slot → Option ℕ
 vacant xs = position is_free xs

@@ -1,6 +1,6 @@
 //! One slot of the list, and the order in which slots are read.
 ghost use Rattle.std.specs.Prelude.{◌≡◌, ◌≤◌, ◌==◌, length, take};
-ghost use Rattle.slots.specs.Order.{gate, is_free, key_of, slot_key};
+ghost use Rattle.slots.specs.Order.{before, gate, is_free, key_of, slot_key};
 ghost use Rattle.slots.specs.Stores.{Holds, free, under};
 
 use journal::MAX_RECORD;
@@ -105,6 +105,22 @@ impl Key {
             section: slot.section,
             age: slot.age,
             at,
+        }
+    }
+
+    // Whether a record of this key is read before one of the other's.
+    // kept: what `<` says, whose `Option<Ordering>` of each field takes more instructions
+    pub(crate) fn is_before(self, other: Self) -> bool
+        ensures { result ≡ before self other }
+    {
+        if self.section == other.section {
+            if self.age == other.age {
+                self.at < other.at
+            } else {
+                self.age < other.age
+            }
+        } else {
+            self.section < other.section
         }
     }
 }
