@@ -40,11 +40,6 @@ not_added s (Ok a) e o refused h = absurd refused
 not_added s (Err x) e None refused h = λ known. let m = h (rw (← refused) known) in grind arith
 not_added s (Err x) e (Some f) refused h = λ known. let m = h (rw (← refused) known) in grind arith
 
--- what is answered for certain
-pub certain : (r m : Result Told Refusal) → r ≡ m → OrNoMemory out_of_memory r m
-certain (Ok t) m h = h
-certain (Err e) m h = λ known. h
-
 -- what is meant may be named otherwise
 pub meant : (r : Result Answer Refusal) (m n : Result Told Refusal) → OrNoMemory out_of_memory (result_map told r) m → m ≡ n → OrNoMemory out_of_memory (result_map told r) n
 meant r m n h same = subst (λ (x : Result Told Refusal). OrNoMemory out_of_memory (result_map told r) x) same h
